@@ -1,0 +1,4 @@
+pub mod Lists
+pub mod NumeralLemmas
+pub mod LineLemmas
+pub mod NumbersLemmas
