@@ -1,0 +1,12 @@
+pub mod Texts
+pub mod Numbers
+pub mod Close
+pub mod Signs
+pub mod Spelling
+pub mod Pieces
+pub mod Standing
+pub mod Reading
+pub mod Sameness
+pub mod Spans
+pub mod Shapes
+pub mod Largest

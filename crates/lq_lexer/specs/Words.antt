@@ -1,0 +1,46 @@
+-- The words and signs of the language. docs/LANGUAGE.md, "Tokens".
+use Rattle.std.specs.Prelude.{ℕ, Bool, List, [], ◌∷◌, codes, if◌then◌else◌}
+use Rattle.std.specs.List.{list_any}
+use Rattle.std.specs.Str.{bytes_eq}
+use Rattle.lq_lexer.specs.declared.token.TokenKind.{TokenKind}
+use Rattle.lq_lexer.specs.declared.token.TokenKind.TheVariants.{Name, Keyword, Annotation, Unused}
+
+-- the words that the grammar uses
+abbrev pub keywords : List (List ℕ)
+keywords =
+    codes "int" ∷ codes "struct" ∷ codes "void" ∷ codes "if" ∷ codes "else" ∷ codes "while"
+    ∷ codes "for" ∷ codes "return" ∷ codes "print" ∷ codes "calloc" ∷ codes "sizeof"
+    ∷ codes "cobegin" ∷ codes "foreach" ∷ []
+
+-- words of annotations, which are refused
+abbrev pub annotation_words : List (List ℕ)
+annotation_words = codes "commutative" ∷ codes "atomic" ∷ []
+
+-- words that no rule uses
+abbrev pub unused_words : List (List ℕ)
+unused_words =
+    codes "break" ∷ codes "continue" ∷ codes "switch" ∷ codes "case" ∷ codes "default"
+    ∷ codes "goto" ∷ codes "do" ∷ codes "union" ∷ codes "enum" ∷ codes "typedef" ∷ codes "char"
+    ∷ codes "short" ∷ codes "long" ∷ codes "unsigned" ∷ codes "signed" ∷ codes "float"
+    ∷ codes "double" ∷ codes "const" ∷ codes "static" ∷ codes "extern" ∷ []
+
+-- the signs of one byte and of two
+abbrev pub signs : List (List ℕ)
+signs =
+    codes "(" ∷ codes ")" ∷ codes "{" ∷ codes "}" ∷ codes "[" ∷ codes "]" ∷ codes ";" ∷ codes ","
+    ∷ codes "." ∷ codes "->" ∷ codes "+" ∷ codes "-" ∷ codes "*" ∷ codes "/" ∷ codes "%"
+    ∷ codes "<" ∷ codes "<=" ∷ codes ">" ∷ codes ">=" ∷ codes "==" ∷ codes "!=" ∷ codes "="
+    ∷ codes "&&" ∷ codes "||" ∷ codes "!" ∷ codes "++" ∷ codes "--" ∷ codes "+=" ∷ codes "-="
+    ∷ codes "*=" ∷ []
+
+-- the text is one of these
+abbrev pub is_among : List (List ℕ) → List ℕ → Bool
+is_among texts text = list_any (λ each. bytes_eq each text) texts
+
+-- a word that is in none of the lists is a name
+abbrev pub kind_of_word : List ℕ → TokenKind
+kind_of_word word =
+    if is_among keywords word then Keyword
+    else (if is_among annotation_words word then Annotation
+    else (if is_among unused_words word then Unused
+    else Name))

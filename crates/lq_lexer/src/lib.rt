@@ -1,0 +1,17 @@
+//! Tokens of a source, and where a source has none.
+#![tactic(auto)]
+
+mod bytes;
+pub mod laws;
+mod lexing;
+mod scan;
+mod shape;
+mod token;
+mod words;
+
+pub use lexing::{LexFault, lex};
+pub use shape::check_shape;
+pub use token::{Token, TokenKind};
+
+#[cfg(test)]
+mod tests;
