@@ -1,0 +1,4 @@
+pub mod View
+pub mod Units
+pub mod Steps
+pub mod Laws

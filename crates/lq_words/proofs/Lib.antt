@@ -1,0 +1,5 @@
+pub mod Holdings
+pub mod Stores
+pub mod Splits
+pub mod Joins
+pub mod Closing
