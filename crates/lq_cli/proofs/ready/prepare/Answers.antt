@@ -1,0 +1,30 @@
+use Rattle.std.proofs.Common.{◌∙◌, Err, ap, map, refl, string_bytes, sym}
+use Rattle.std.proofs.lemmas.Result.{err_from_is_err_and}
+use Rattle.lq_cli.specs.Liquid.{Lost}
+use Rattle.lq_cli.specs.Replay.{command_of}
+use Rattle.lq_cli.proofs.Stopped.{slice_stops, picks_stop, literal_stops}
+use Rattle.lq_cli.proofs.ready.prepare.Goals as goal
+
+pub returns-in_err-slice-clause-told : goal.returns-in_err-slice-clause-told
+returns-in_err-slice-clause-told g c =
+    let p = err_from_is_err_and c.from_residual-in_err-slice.result c.from_residual-in_err-slice.ensures.1 in
+    rw (p.1, p.2)
+    (slice_stops (g.H.Shelf.holding c.args.shelf.now) (Lost (g.H.Shelf.faults c.args.shelf.now) (g.H.Shelf.faults c.fetch.new.shelf) (g.H.Shelf.failed_name c.fetch.new.shelf)) (map string_bytes c.args.words.now)
+    (command_of c.in_ok-replay.replay) c.in_ok-text.text.items (record { command = rw c.in_ok-replay.ensures.ok_part at c.read_command.ensures.some; fetched = c.in_ok-text.ensures.fetched; within = c.in_ok-text.ensures.within }) c.in_err-slice.field-0.0 (λ is. rw c.deref.ensures.value at c.in_err-slice.ensures.outside (ap Err is)))
+
+pub returns-in_err-picks-clause-told : goal.returns-in_err-picks-clause-told
+returns-in_err-picks-clause-told g c =
+    let p = err_from_is_err_and c.from_residual-in_err-picks.result c.from_residual-in_err-picks.ensures.1 in
+    let spelled = c.in_ok-slice.ensures.spelled in
+    rw (p.1, p.2)
+    (picks_stop (g.H.Shelf.holding c.args.shelf.now) (Lost (g.H.Shelf.faults c.args.shelf.now) (g.H.Shelf.faults c.fetch_picks.new.shelf) (g.H.Shelf.failed_name c.fetch_picks.new.shelf)) (map string_bytes c.args.words.now)
+    (command_of c.in_ok-replay.replay) c.in_ok-text.text.items (record { command = rw c.in_ok-replay.ensures.ok_part at c.read_command.ensures.some; fetched = c.in_ok-text.ensures.fetched; within = c.in_ok-text.ensures.within }) spelled.0 c.in_ok-slice.slice (rw c.deref.ensures.value at spelled.1)
+    (g.H.Shelf.holding c.fetch.new.shelf c.in_ok-replay.replay.picks.now) (sym (c.in_ok-text.ensures.unchanged c.in_ok-replay.replay.picks.now)) c.in_err-picks.field-0.0 (rw c.in_ok-text.ensures.count at c.in_err-picks.ensures.told))
+
+pub returns-in-Some-clause-told : goal.returns-in-Some-clause-told
+returns-in-Some-clause-told g c =
+    let spelled = c.in_ok-slice.ensures.spelled in
+    literal_stops (g.H.Shelf.holding c.args.shelf.now) (Lost (g.H.Shelf.faults c.args.shelf.now) (g.H.Shelf.faults c.fetch_picks.new.shelf) (g.H.Shelf.failed_name c.fetch_picks.new.shelf)) (map string_bytes c.args.words.now)
+    (command_of c.in_ok-replay.replay) c.in_ok-text.text.items (record { command = rw c.in_ok-replay.ensures.ok_part at c.read_command.ensures.some; fetched = c.in_ok-text.ensures.fetched; within = c.in_ok-text.ensures.within }) spelled.0 c.in_ok-slice.slice (rw c.deref.ensures.value at spelled.1)
+    c.in_ok-picks.picks.items c.in-Some.at c.place.result (c.in_ok-picks.ensures.picked (g.H.Shelf.holding c.args.shelf.now) (command_of c.in_ok-replay.replay) refl (sym (c.in_ok-text.ensures.unchanged c.in_ok-replay.replay.picks.now)))
+    (sym c.literal_fault.ensures ∙ c.in-Some.is) (rw c.deref-in-Some.ensures.value at c.place.ensures)

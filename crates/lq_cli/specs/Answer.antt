@@ -1,0 +1,49 @@
+-- The answers that a line tells (docs/COMMANDS.md, "Statuses").
+use Rattle.std.specs.Prelude.{◌≡◌, ◌⊎◌, ℕ, List, ◌++◌, codes, decimal}
+use Rattle.lq_tree.specs.Place.{place_text}
+use Rattle.lq_shelf.specs.declared.sink.Put.{Put}
+use Rattle.lq_shelf.specs.declared.sink.Put.TheVariants.{Failed, NoMemory}
+use Rattle.lq_cli.specs.declared.answer.Quantity.{Quantity}
+use Rattle.lq_cli.specs.declared.answer.Quantity.TheVariants.{SourceBytes, PickBytes, PickNumbers}
+use Rattle.lq_cli.specs.declared.answer.Answer.{Answer}
+use Rattle.lq_cli.specs.declared.answer.Answer.TheVariants.{BadWords, ReadFault, Limit, Outside, BadPickLine, Literal, Trap, Fuel}
+use Rattle.lq_cli.specs.Lines.{line, trap, read_fault, limit}
+use Rattle.lq_cli.specs.Liquid.{most_source_bytes, most_pick_bytes, most_pick_numbers}
+
+abbrev pub quantity_text : Quantity → List ℕ
+quantity_text SourceBytes = codes "source bytes"
+quantity_text PickBytes = codes "pick bytes"
+quantity_text PickNumbers = codes "pick numbers"
+
+abbrev pub allowed_of : Quantity → ℕ
+allowed_of SourceBytes = most_source_bytes
+allowed_of PickBytes = most_pick_bytes
+allowed_of PickNumbers = most_pick_numbers
+
+abbrev pub status_of : Answer → ℕ
+status_of BadWords = 12
+status_of (ReadFault name) = 9
+status_of (Limit quantity found) = 7
+status_of Outside = 3
+status_of (BadPickLine number) = 6
+status_of (Literal at) = 2
+status_of (Trap kind at) = 1
+status_of Fuel = 8
+
+abbrev pub line_of : Answer → List ℕ
+line_of BadWords = line (codes "bad words")
+line_of (ReadFault name) = read_fault name.now
+line_of (Limit quantity found) = limit (quantity_text quantity) found (allowed_of quantity)
+line_of Outside = line (codes "outside the slice")
+line_of (BadPickLine number) = line (codes "bad pick line " ++ decimal number)
+line_of (Literal at) = line (codes "refused literal at " ++ place_text at)
+line_of (Trap kind at) = trap (record { kind = kind; at = at })
+line_of Fuel = line (codes "out of fuel")
+
+abbrev pub lost_of : Put → ℕ
+lost_of Failed = 10
+lost_of NoMemory = 11
+
+-- the sink failed, or memory ran out
+abbrev pub IsLost : ℕ → Type 0
+IsLost status = (status ≡ 10) ⊎ (status ≡ 11)

@@ -1,0 +1,17 @@
+pub mod Lines
+pub mod Number
+pub mod Rest
+pub mod Slice
+pub mod SliceFault
+pub mod SliceParser
+pub mod Source
+pub mod Task
+pub mod Run
+pub mod Literal
+pub mod Same
+pub mod Command
+pub mod Liquid
+pub mod Replay
+pub mod Answer
+pub mod Ready
+pub mod Machine

@@ -1,0 +1,109 @@
+-- The answers of the program: the status and the bytes that are written, with the cause of each
+-- (docs/COMMANDS.md, "Replay today" and "Statuses").
+use Rattle.std.specs.Prelude.{◌≡◌, ℕ, ◌+◌, ◌<◌, ◌≤◌, pos, List, ◌++◌, length, map, Option, Some, codes, decimal}
+use Rattle.lq_tree.specs.Place.{place_text}
+use Rattle.lq_text.specs.Numbers.{IsNumbersFile, IsFirstBadLine}
+use Rattle.lq_shelf.specs.Faults.{Rose}
+use Rattle.lq_shelf.specs.Shelf.{Holding, AreFirstOf}
+use Rattle.lq_shelf.specs.Sink.{Appends, AppendsPrefix}
+use Rattle.lq_meaning.specs.Ending.{Trap, Done, Trapped, Spent, Outcome}
+use Rattle.lq_meaning.specs.Meaning.{sequential}
+use Rattle.lq_cli.specs.declared.slice.Slice.{Slice}
+use Rattle.lq_cli.specs.Command.{Command, Spells}
+use Rattle.lq_cli.specs.Lines.{line, number_lines, trap, read_fault, limit}
+use Rattle.lq_cli.specs.Literal.{literal_faults, first_of, IsAccepted}
+use Rattle.lq_cli.specs.Run.{run_slice}
+use Rattle.lq_cli.specs.Slice.{SpellsSlice}
+use Rattle.lq_cli.specs.Source.{place_at, program}
+
+abbrev pub most_source_bytes : ℕ
+most_source_bytes = 262144
+
+abbrev pub most_pick_bytes : ℕ
+most_pick_bytes = 33554432
+
+abbrev pub most_pick_numbers : ℕ
+most_pick_numbers = 1048576
+
+-- how an outcome is told: the numbers that were printed, and the line of the end
+pub data Ends (o : Outcome) : ℕ → List ℕ → Type 0 where
+  done : o.ending ≡ Done → Ends o 0 (number_lines o.world.printed)
+  trapped : {t : Trap} → o.ending ≡ Trapped t →
+      Ends o 1 (number_lines o.world.printed ++ trap t)
+  spent : o.ending ≡ Spent → Ends o 8 (number_lines o.world.printed ++ line (codes "out of fuel"))
+
+-- what a slice means: its text, the name of its array, the slice, the command and the picks
+abbrev pub Means : Type 0
+Means = (text name : List ℕ) → Slice → Command → (picks : List ℕ) → Outcome
+
+-- the run under the picks
+abbrev pub interleaved : (text name : List ℕ) → Slice → Command → (picks : List ℕ) → Outcome
+interleaved text name s c picks = run_slice text c.fuel c.words picks s
+
+-- the sequential execution of the source, to which picks mean nothing
+abbrev pub sequentially : (text name : List ℕ) → Slice → Command → (picks : List ℕ) → Outcome
+sequentially text name s c picks = sequential c.fuel c.words (program text name s)
+
+-- what the fetches of a call gave, by what is held under each name
+module _ (held : List ℕ → Holding) where
+  -- a fetch gave these bytes: all that is held, or one more than so many
+  pub record Fetched (name : List ℕ) (allowed : ℕ) (bytes : List ℕ) : Type 0 where
+    pub first : AreFirstOf (held name) (allowed + 1) bytes
+    pub within : length bytes ≤ allowed + 1
+
+  -- a command and the bytes of its source, which are within their limit
+  pub record Sourced (words : List (List ℕ)) (c : Command) (text : List ℕ) : Type 0 where
+    pub command : Spells words c
+    pub fetched : Fetched c.source most_source_bytes text
+    pub within : length text ≤ most_source_bytes
+
+  -- the bytes of its picks, which are within their limit
+  pub record PickBytes (c : Command) (bytes : List ℕ) : Type 0 where
+    pub fetched : Fetched c.picks most_pick_bytes bytes
+    pub within : length bytes ≤ most_pick_bytes
+
+  -- its picks, which are within their limit
+  pub record Picked (c : Command) (picks : List ℕ) : Type 0 where
+    pub bytes : List ℕ
+    pub fetched : PickBytes c bytes
+    pub numbers : IsNumbersFile (pos 0) bytes (map pos picks)
+    pub within : length picks ≤ most_pick_numbers
+
+-- a fetch of this name failed in the call: the count of faults rose, and this is the last name that failed
+abbrev pub Lost : (before after : ℕ) → (last : List ℕ) → (name : List ℕ) → Type 0
+Lost before after last name = Rose before after × (last ≡ name)
+
+-- the answers, by what is held under each name, by which fetches failed and by what a slice means
+module _ (held : List ℕ → Holding) (Failed : List ℕ → Type 0) (means : Means) where
+  -- the answers where the words are a command and its source is a slice
+  pub data SliceAnswers (c : Command) (text name : List ℕ) (s : Slice) : ℕ → List ℕ → Type 0 where
+    picks_fault : Failed c.picks → SliceAnswers c text name s 9 (read_fault c.picks)
+    pick_bytes : (bytes : List ℕ) → Fetched held c.picks most_pick_bytes bytes → most_pick_bytes < length bytes →
+        SliceAnswers c text name s 7 (limit (codes "pick bytes") (length bytes) most_pick_bytes)
+    bad_pick_line : (bytes : List ℕ) (number : ℕ) → PickBytes held c bytes → IsFirstBadLine (pos 0) bytes number →
+        SliceAnswers c text name s 6 (line (codes "bad pick line " ++ decimal number))
+    pick_numbers : (bytes picks : List ℕ) → PickBytes held c bytes → IsNumbersFile (pos 0) bytes (map pos picks) → most_pick_numbers < length picks →
+        SliceAnswers c text name s 7 (limit (codes "pick numbers") (length picks) most_pick_numbers)
+    refused : (picks : List ℕ) (byte : ℕ) → Picked held c picks → first_of (literal_faults s) ≡ Some byte →
+        SliceAnswers c text name s 2 (line (codes "refused literal at " ++ place_text (place_at text byte)))
+    ran : (picks : List ℕ) {status : ℕ} {bytes : List ℕ} → Picked held c picks → IsAccepted s → Ends (means text name s c picks) status bytes →
+        SliceAnswers c text name s status bytes
+
+  -- the answers to the words of a command line
+  pub data Answers (words : List (List ℕ)) : ℕ → List ℕ → Type 0 where
+    bad_words : ((c : Command) → ¬ Spells words c) → Answers words 12 (line (codes "bad words"))
+    source_fault : (c : Command) → Spells words c → Failed c.source → Answers words 9 (read_fault c.source)
+    source_bytes : (c : Command) (text : List ℕ) → Spells words c → Fetched held c.source most_source_bytes text → most_source_bytes < length text →
+        Answers words 7 (limit (codes "source bytes") (length text) most_source_bytes)
+    outside : (c : Command) (text : List ℕ) → Sourced held words c text → ((name : List ℕ) (s : Slice) → ¬ SpellsSlice text name s) →
+        Answers words 3 (line (codes "outside the slice"))
+    with_slice : (c : Command) (text name : List ℕ) (s : Slice) {status : ℕ} {bytes : List ℕ} →
+        Sourced held words c text → SpellsSlice text name s → SliceAnswers c text name s status bytes → Answers words status bytes
+
+-- a status and the bytes that were written with it are an answer
+abbrev pub Tells : (answers : ℕ → List ℕ → Type 0) → (written now : Option (List ℕ)) → ℕ → Type 0
+Tells answers written now status = (bytes : List ℕ) × Appends written now bytes × answers status bytes
+
+-- the first ones of the bytes of an answer were written
+abbrev pub Begins : (answers : ℕ → List ℕ → Type 0) → (written now : Option (List ℕ)) → Type 0
+Begins answers written now = (status : ℕ) × (bytes : List ℕ) × AppendsPrefix written now bytes × answers status bytes

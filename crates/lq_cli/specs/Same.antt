@@ -1,0 +1,25 @@
+-- What two runs agree on.
+use Rattle.std.specs.Prelude.{◌≡◌, ◌≢◌, ℕ, List}
+use Rattle.lq_tree.specs.declared.place.Place.{Place}
+use Rattle.lq_meaning.specs.Ending.{Strayed, Spent, Outcome}
+use Rattle.lq_meaning.specs.Meaning.{sequential}
+use Rattle.lq_cli.specs.declared.slice.Slice.{Slice}
+use Rattle.lq_cli.specs.Literal.{IsAccepted}
+use Rattle.lq_cli.specs.Source.{program}
+use Rattle.lq_cli.specs.Run.{run_slice}
+
+-- two runs end alike, print the same and cost the same; unless the fuel was spent they leave the same memory
+pub record Agree (a b : Outcome) : Type 0 where
+  pub ending : a.ending ≡ b.ending
+  pub printed : a.world.printed ≡ b.world.printed
+  pub cost : a.world.cost ≡ b.world.cost
+  pub memory : a.ending ≢ Spent → a.world.memory ≡ b.world.memory
+
+-- The run of an accepted slice meets no stray and agrees with the sequential execution of its source, under every
+-- list of picks, with every fuel and every number of words.
+abbrev pub PicksDoNotMatter : Type 0
+PicksDoNotMatter =
+    (text name : List ℕ) (s : Slice) (fuel words : ℕ) (picks : List ℕ) →
+    IsAccepted s →
+    ((at : Place) → (run_slice text fuel words picks s).ending ≢ Strayed at)
+    × Agree (run_slice text fuel words picks s) (sequential fuel words (program text name s))

@@ -1,0 +1,150 @@
+ghost use Rattle.std.specs.Prelude.{◌≡◌};
+ghost use Rattle.lq_shelf.specs.Faults.{Rose};
+ghost use Rattle.lq_shelf.specs.Sink.{Appends, AppendsPrefix};
+ghost use Rattle.lq_cli.specs.Answer.{IsLost, lost_of};
+
+use lq_shelf::{Put, Sink};
+use lq_tree::{Place, TrapKind};
+use std::alloc::Global;
+use std::fmt;
+
+/// The status where the sink failed.
+pub const SINK_FAULT: u8 = 10;
+/// The status where memory ran out.
+pub const NO_MEMORY: u8 = 11;
+
+/// A quantity that has a limit (docs/COMMANDS.md, "Limits").
+#[derive(Clone, Copy, Debug, PartialEq, Eq)]
+pub enum Quantity {
+    SourceBytes,
+    PickBytes,
+    PickNumbers,
+}
+
+impl Quantity {
+    ghost use Rattle.std.specs.Prelude.{◌≡◌};
+    ghost use Rattle.lq_cli.specs.Answer.{allowed_of};
+
+    /// The largest count that is allowed.
+    pub fn allowed(self) -> usize
+        ensures { result ≡ allowed_of self }
+    {
+        match self {
+            Quantity::SourceBytes => 262_144,
+            Quantity::PickBytes => 33_554_432,
+            Quantity::PickNumbers => 1_048_576,
+        }
+    }
+}
+
+impl fmt::Display for Quantity {
+    ghost use Rattle.std.specs.Prelude.{Some};
+    ghost use Rattle.lq_cli.specs.Answer.{quantity_text};
+
+    ghost output = { λ quantity. Some (quantity_text quantity) };
+
+    fn fmt<W: fmt::Write>(&self, f: &mut fmt::Formatter<W>) -> fmt::Result {
+        match self {
+            Quantity::SourceBytes => write!(f, "source bytes"),
+            Quantity::PickBytes => write!(f, "pick bytes"),
+            Quantity::PickNumbers => write!(f, "pick numbers"),
+        }
+    }
+}
+
+/// An answer that a line tells (docs/COMMANDS.md, "Statuses").
+#[derive(Clone, Copy, Debug, PartialEq, Eq)]
+pub enum Answer<'a> {
+    BadWords,
+    /// A file can't be read.
+    ReadFault(&'a str),
+    /// More of a quantity was found than is allowed.
+    Limit(Quantity, usize),
+    /// The source is not in the slice.
+    Outside,
+    /// The number, from 1, of the first bad line.
+    BadPickLine(u64),
+    /// Where the check of literals fails first.
+    Literal(Place),
+    /// The run trapped.
+    Trap(TrapKind, Place),
+    /// The run is out of fuel.
+    Fuel,
+}
+
+impl fmt::Display for Answer<'_> {
+    ghost use Rattle.std.specs.Prelude.{Some};
+    ghost use Rattle.lq_cli.specs.Answer.{line_of};
+
+    ghost output = { λ answer. Some (line_of answer) };
+
+    fn fmt<W: fmt::Write>(&self, f: &mut fmt::Formatter<W>) -> fmt::Result {
+        match self {
+            Answer::BadWords => writeln!(f, "bad words"),
+            Answer::ReadFault(name) => writeln!(f, "read fault {name}"),
+            Answer::Limit(quantity, found) => {
+                writeln!(f, "limit {quantity} {found} {}", quantity.allowed())
+            }
+            Answer::Outside => writeln!(f, "outside the slice"),
+            Answer::BadPickLine(line) => writeln!(f, "bad pick line {line}"),
+            Answer::Literal(at) => writeln!(f, "refused literal at {at}"),
+            Answer::Trap(kind, at) => writeln!(f, "trap {kind} at {at}"),
+            Answer::Fuel => writeln!(f, "out of fuel"),
+        }
+    }
+}
+
+impl Answer<'_> {
+    ghost use Rattle.std.specs.Prelude.{◌≡◌, ◌≢◌, ◌⊎◌, OnOk, IsErrOf};
+    ghost use Rattle.lq_cli.specs.Answer.{status_of, line_of};
+
+    /// The status that goes with the line.
+    fn status(&self) -> u8
+        ensures { result ≡ status_of self.now }
+    {
+        match self {
+            Answer::BadWords => 12,
+            Answer::ReadFault(_) => 9,
+            Answer::Limit(..) => 7,
+            Answer::Outside => 3,
+            Answer::BadPickLine(_) => 6,
+            Answer::Literal(_) => 2,
+            Answer::Trap(..) => 1,
+            Answer::Fuel => 8,
+        }
+    }
+
+    // Writes the line as one piece.
+    fn put<K: Sink>(&self, alloc: Global, out: &mut K) -> Result<(), Put>
+        ensures ok { OnOk result (Appends (K.written out.old) (K.written out.new) (line_of self.now)) }
+        ensures prefix { AppendsPrefix (K.written out.old) (K.written out.new) (line_of self.now) }
+        ensures failed { IsErrOf result Put.Failed → Rose (K.faults out.old) (K.faults out.new) }
+        ensures other { (IsErrOf result Put.Failed → ⊥) → K.faults out.new ≡ K.faults out.old }
+    {
+        let line = self.to_string(alloc)?;
+        out.put(line.as_bytes())
+    }
+
+    /// Writes the line, and gives the status: that of the answer where all was written.
+    pub fn tell<K: Sink>(&self, alloc: Global, out: &mut K) -> u8
+        ensures told { IsLost result ⊎ ((result ≡ status_of self.now) × Appends (K.written out.old) (K.written out.new) (line_of self.now)) }
+        ensures prefix { AppendsPrefix (K.written out.old) (K.written out.new) (line_of self.now) }
+        ensures failed { result ≡ 10 → Rose (K.faults out.old) (K.faults out.new) }
+        ensures other { result ≢ 10 → K.faults out.new ≡ K.faults out.old }
+    {
+        match self.put(alloc, out) {
+            Ok(()) => self.status(),
+            Err(put) => lost(put),
+        }
+    }
+}
+
+/// The status where the sink or memory ended a command.
+pub fn lost(put: Put) -> u8
+    ensures { result ≡ lost_of put }
+{
+    match put {
+        Put::Failed => SINK_FAULT,
+        Put::NoMemory => NO_MEMORY,
+    }
+}
