@@ -1,0 +1,9 @@
+pub mod Whole
+pub mod TermsLemmas
+pub mod Collecting
+pub mod FormLemmas
+pub mod LooseLemmas
+pub mod ItemLemmas
+pub mod CombinationLemmas
+pub mod LawLemmas
+pub mod SearchLemmas
