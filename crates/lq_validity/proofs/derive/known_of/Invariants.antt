@@ -1,0 +1,10 @@
+use Rattle.std.proofs.Common.{◌≡◌, reverse, take}
+use Rattle.lq_validity.specs.Known.{IsKnown}
+use Rattle.lq_validity.specs.Derives.{divisions}
+use Rattle.lq_validity.proofs.derive.known_of.Given as goal
+
+abbrev pub invariant-loop-place : goal.invariant-loop-place
+invariant-loop-place l = record {
+  known : IsKnown l.multipliers (reverse (take l.place l.items)) l.marks.items l.exacts;
+  count : l.divisions ≡ divisions (reverse (take l.place l.items));
+}

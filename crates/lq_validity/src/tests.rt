@@ -1,0 +1,181 @@
+use crate::{Mults, derives};
+use lq_linear::{Cert, Combo, Divisor, Exact, Facts, Form, Item, Row};
+use sqlite_items::Items;
+use std::alloc::Global;
+use std::test::Fail;
+
+type Terms = &'static [(u32, i64)];
+
+fn form(alloc: Global, terms: &[(u32, i64)]) -> Result<Form, Fail> {
+    Ok(Form::of(Vec::from_slice(alloc, terms)?, 0).ok_or("no form")?)
+}
+
+fn row(alloc: Global, terms: &[(u32, i64)], most: i64) -> Result<Row, Fail> {
+    Ok(Row::of(form(alloc, terms)?, most).ok_or("no row")?)
+}
+
+fn facts(alloc: Global, rows: &[(Terms, i64)]) -> Result<Facts, Fail> {
+    let mut items = Vec::new(alloc);
+    for (terms, most) in rows {
+        items.push(Item::Holds(row(alloc, terms, *most)?))?;
+    }
+    Ok(Facts {
+        items: Items::from_vec(items),
+    })
+}
+
+#[test]
+fn multipliers_are_listed(rt: HostRuntime) {
+    let cases: [(&[u32], Option<&[u32]>); 10] = [
+        (&[], Some(&[1])),
+        (&[2], Some(&[1, 2])),
+        (&[64], Some(&[1, 64])),
+        (&[2, 64], Some(&[1, 2, 64])),
+        (&[1], None),
+        (&[65], None),
+        (&[3, 3], None),
+        (&[3, 2], None),
+        (&[2, 65], None),
+        (&[2, 3, 4], None),
+    ];
+    for (rest, want) in cases {
+        let made = Mults::list(rest);
+        assert_eq!(rt; made.as_ref().map(|m| m.numbers()), want, "at {rest:?}");
+    }
+}
+
+type Parts = &'static [(u32, u32)];
+
+/// Whether as a contradiction, the divisor and the parts.
+type Found = (bool, u32, Parts);
+
+fn found_in(combo: &Combo) -> (bool, u32, &[(u32, u32)]) {
+    (combo.void, combo.divisor, combo.parts.as_slice())
+}
+
+fn entry_in(exact: &Exact) -> (u32, (bool, u32, &[(u32, u32)])) {
+    (exact.item, found_in(&exact.combo))
+}
+
+#[derive(Clone, Copy)]
+struct Case {
+    rows: &'static [(Terms, i64)],
+    rest: &'static [u32],
+    goal: (Terms, i64),
+    found: Option<Found>,
+}
+
+const CHAIN: &[(Terms, i64)] = &[(&[(0, 1), (1, -1)], -1), (&[(1, 1), (2, -1)], -1)];
+
+/// x, y, z and w are the symbols 0, 1, 2 and 3. In the last two cases more than one combination
+/// gives the goal, and the first in order is found.
+const CASES: [Case; 8] = [
+    Case {
+        rows: CHAIN,
+        rest: &[],
+        goal: (&[(0, 1), (2, -1)], -2),
+        found: Some((false, 1, &[(1, 1), (1, 2)])),
+    },
+    Case {
+        rows: CHAIN,
+        rest: &[],
+        goal: (&[(0, 1), (2, -1)], -3),
+        found: None,
+    },
+    Case {
+        rows: &[(&[(0, 2)], 5)],
+        rest: &[2],
+        goal: (&[(0, 1)], 2),
+        found: Some((false, 2, &[(1, 1)])),
+    },
+    Case {
+        rows: &[(&[(0, 1)], 0), (&[(0, -1)], -1)],
+        rest: &[],
+        goal: (&[(3, 1)], 0),
+        found: Some((true, 1, &[(1, 1), (1, 2)])),
+    },
+    Case {
+        rows: &[],
+        rest: &[],
+        goal: (&[], 0),
+        found: Some((false, 1, &[])),
+    },
+    Case {
+        rows: &[(&[(0, 1)], 0), (&[(0, -1)], -1)],
+        rest: &[],
+        goal: (&[], -1),
+        found: Some((false, 1, &[(1, 1), (1, 2)])),
+    },
+    Case {
+        rows: &[(&[(0, 1)], 3), (&[(0, 2)], 4)],
+        rest: &[2],
+        goal: (&[(0, 2)], 6),
+        found: Some((false, 1, &[(2, 1)])),
+    },
+    Case {
+        rows: &[(&[(0, 2)], 6), (&[(0, 1)], 3)],
+        rest: &[2],
+        goal: (&[(0, 1)], 3),
+        found: Some((false, 2, &[(1, 1)])),
+    },
+];
+
+#[test]
+fn finds_the_first_combination(rt: HostRuntime) -> Result<(), Fail> {
+    for case in CASES {
+        let known = facts(rt.alloc(), case.rows)?;
+        assert!(rt; known.items.len() <= 2);
+        let goal = row(rt.alloc(), case.goal.0, case.goal.1)?;
+        let mults = Mults::list(case.rest).ok_or("no multipliers")?;
+        let cert = derives(rt.alloc(), &known, &goal, &mults)?;
+        let found = cert.as_ref().map(|c| found_in(&c.goal));
+        assert_eq!(rt; found, case.found, "at {goal:?}");
+    }
+    Ok(())
+}
+
+#[test]
+fn finds_what_shows_that_a_dividend_is_not_negative(rt: HostRuntime) -> Result<(), Fail> {
+    // x is 7, and q its quotient by 3: fact 5 says that 3q is at most x.
+    let mut items = Vec::new(rt.alloc());
+    items.push(Item::Holds(row(rt.alloc(), &[(0, 1)], 7)?))?;
+    items.push(Item::Holds(row(rt.alloc(), &[(0, -1)], -7)?))?;
+    items.push(Item::Division {
+        quotient: 1,
+        dividend: form(rt.alloc(), &[(0, 1)])?,
+        divisor: Divisor::of(3).ok_or("no divisor")?,
+    })?;
+    assert_eq!(rt; items.len(), 3);
+    let known = Facts {
+        items: Items::from_vec(items),
+    };
+    let goal = row(rt.alloc(), &[(1, 1)], 2)?;
+    let mults = Mults::list(&[3]).ok_or("no multipliers")?;
+    let Cert {
+        exacts,
+        goal: shown,
+    } = derives(rt.alloc(), &known, &goal, &mults)?.ok_or("not derived")?;
+    let parts: Parts = &[(1, 1), (1, 5)];
+    assert_eq!(rt; found_in(&shown), (false, 3, parts));
+    assert_eq!(rt; exacts.len(), 1);
+    let exact = exacts.get(0).ok_or("no entry")?;
+    let exact_parts: Parts = &[(1, 2)];
+    assert_eq!(rt; entry_in(exact), (1, (false, 1, exact_parts)));
+    Ok(())
+}
+
+#[test]
+fn searches_sixty_facts(rt: HostRuntime) -> Result<(), Fail> {
+    let mut items = Vec::new(rt.alloc());
+    for symbol in 0..60u32 {
+        items.push(Item::Holds(row(rt.alloc(), &[(symbol, 1), (symbol + 1, -1)], -1)?))?;
+    }
+    assert_eq!(rt; items.len(), 60);
+    let known = Facts {
+        items: Items::from_vec(items),
+    };
+    let mults = Mults::list(&[2, 3]).ok_or("no multipliers")?;
+    let near = row(rt.alloc(), &[(58, 1), (60, -1)], -2)?;
+    assert!(rt; derives(rt.alloc(), &known, &near, &mults)?.is_some());
+    Ok(())
+}
