@@ -3,6 +3,7 @@ use Rattle.std.proofs.Common.{◌≡◌, ◌≢◌, ℕ, zero, suc, ◌<◌, Boo
 use Rattle.std.specs.List.{All, filter}
 use Rattle.std.proofs.lemmas.List.Elements.{All-nil, All-cons, All-weaker}
 use Rattle.std.proofs.lemmas.Bool.{not-false, ltb-true, or_parts, eqb-false}
+use Rattle.lq_tree.specs.declared.place.Place.{Place}
 use Rattle.lq_cli.specs.declared.slice.Store.{Store}
 use Rattle.lq_cli.specs.declared.slice.Step.{Step}
 use Rattle.lq_cli.specs.declared.slice.Slice.{Slice}
@@ -47,7 +48,7 @@ pub record Accepted (s : Slice) : Type 0 where
   pub after : All (λ (t : Step). step_index t < s.count) s.after
 
 -- no fault at the declaration: there is an element
-some_elements : (count declaration : ℕ) → (if count == 0 then declaration ∷ [] else []) ≡ [] → 0 < count
+some_elements : (count : ℕ) (declaration : Place) → (if count == 0 then declaration ∷ [] else []) ≡ [] → 0 < count
 some_elements zero declaration e = absurd cc
 some_elements (suc n) declaration e = omega arith
 

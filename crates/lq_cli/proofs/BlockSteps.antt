@@ -7,7 +7,6 @@ use Rattle.lq_tree.specs.declared.place.Place.{Place}
 use Rattle.lq_meaning.specs.World.{World, Action, Store as StoreWord, Answers, act}
 use Rattle.lq_meaning.specs.Ending.{Outcome}
 use Rattle.lq_cli.specs.declared.slice.Store.{Store}
-use Rattle.lq_cli.specs.Source.{place_at}
 use Rattle.lq_cli.specs.Task.{Task, Ended, Due, Fork, none, more, forked, step, Moves, moved, resumed}
 use Rattle.lq_cli.specs.Run.{run_or_end, stores_then, blocks_then, first_pick, leaf_of}
 use Rattle.lq_cli.specs.Machine.{IsArray, array, array_len, rest_of_run, spent, after_store, taken}
@@ -50,62 +49,62 @@ is_zero n e = grind (arith, nat_tests)
 some_is : {A : Type 0} {x y : A} → Some x ≡ Some y → x ≡ y
 some_is e = cc
 
-module _ (fuel : ℕ) (picks text : List ℕ) (rest : Task) (w : World) (below : w.cost < fuel) (a : IsArray w.memory) where
+module _ (fuel : ℕ) (picks : List ℕ) (rest : Task) (w : World) (below : w.cost < fuel) (a : IsArray w.memory) where
   -- how a store and what is left of the blocks go on
   abbrev goes_on : Store × List Store × List Store → Outcome
-  goes_on t = rest_of_run fuel picks (blocks_then text array t.1 t.2 rest) (after_store w t.0)
+  goes_on t = rest_of_run fuel picks (blocks_then array t.1 t.2 rest) (after_store w t.0)
 
   abbrev within : Store × List Store × List Store → Type 0
   within t = t.0.index < array_len w.memory
 
   -- what the run takes of the two blocks goes on as said
-  by_step : (left right : List Store) (t : Store × List Store × List Store) → ((due : Outcome) → run_or_end (blocks_then text array left right rest) w due ≡ due) → step (blocks_then text array left right rest) (leaf_of (first_pick (drop w.cost picks)) (blocks_then text array left right rest)) w ≡ Moves (blocks_then text array t.1 t.2 rest) (after_store w t.0) → rest_of_run fuel picks (blocks_then text array left right rest) w ≡ goes_on t
-  by_step left right t runs moves = moves_on fuel picks (blocks_then text array left right rest) (blocks_then text array t.1 t.2 rest) w (after_store w t.0) below refl runs moves
+  by_step : (left right : List Store) (t : Store × List Store × List Store) → ((due : Outcome) → run_or_end (blocks_then array left right rest) w due ≡ due) → step (blocks_then array left right rest) (leaf_of (first_pick (drop w.cost picks)) (blocks_then array left right rest)) w ≡ Moves (blocks_then array t.1 t.2 rest) (after_store w t.0) → rest_of_run fuel picks (blocks_then array left right rest) w ≡ goes_on t
+  by_step left right t runs moves = moves_on fuel picks (blocks_then array left right rest) (blocks_then array t.1 t.2 rest) w (after_store w t.0) below refl runs moves
 
-  first_of_both : (s t : Store) (left right : List Store) → within (s, left, t ∷ right) → first_pick (drop w.cost picks) % 2 ≡ 0 → rest_of_run fuel picks (blocks_then text array (s ∷ left) (t ∷ right) rest) w ≡ goes_on (s, left, t ∷ right)
+  first_of_both : (s t : Store) (left right : List Store) → within (s, left, t ∷ right) → first_pick (drop w.cost picks) % 2 ≡ 0 → rest_of_run fuel picks (blocks_then array (s ∷ left) (t ∷ right) rest) w ≡ goes_on (s, left, t ∷ right)
   first_of_both s t left right h leaf =
-      by_step (s ∷ left) (t ∷ right) (s, left, t ∷ right) (λ due. refl) (step_first (place_at text s.at) (StoreWord array (pos s.index) 0 s.value) (λ _. stores_then text array left (Ended None)) (stores_then text array (t ∷ right) (Ended None)) rest w (after_store w s) (first_pick (drop w.cost picks) % 2) s.value leaf (store_acts w s a h))
+      by_step (s ∷ left) (t ∷ right) (s, left, t ∷ right) (λ due. refl) (step_first s.at (StoreWord array (pos s.index) 0 s.value) (λ _. stores_then array left (Ended None)) (stores_then array (t ∷ right) (Ended None)) rest w (after_store w s) (first_pick (drop w.cost picks) % 2) s.value leaf (store_acts w s a h))
 
-  second_of_both : (s t : Store) (left right : List Store) → within (t, s ∷ left, right) → first_pick (drop w.cost picks) % 2 ≡ 1 → rest_of_run fuel picks (blocks_then text array (s ∷ left) (t ∷ right) rest) w ≡ goes_on (t, s ∷ left, right)
+  second_of_both : (s t : Store) (left right : List Store) → within (t, s ∷ left, right) → first_pick (drop w.cost picks) % 2 ≡ 1 → rest_of_run fuel picks (blocks_then array (s ∷ left) (t ∷ right) rest) w ≡ goes_on (t, s ∷ left, right)
   second_of_both s t left right h leaf =
-      by_step (s ∷ left) (t ∷ right) (t, s ∷ left, right) (λ due. refl) (step_second (place_at text s.at) (place_at text t.at) (StoreWord array (pos s.index) 0 s.value) (StoreWord array (pos t.index) 0 t.value) (λ _. stores_then text array left (Ended None)) (λ _. stores_then text array right (Ended None)) rest w (after_store w t) (first_pick (drop w.cost picks) % 2) t.value leaf (store_acts w t a h))
+      by_step (s ∷ left) (t ∷ right) (t, s ∷ left, right) (λ due. refl) (step_second s.at t.at (StoreWord array (pos s.index) 0 s.value) (StoreWord array (pos t.index) 0 t.value) (λ _. stores_then array left (Ended None)) (λ _. stores_then array right (Ended None)) rest w (after_store w t) (first_pick (drop w.cost picks) % 2) t.value leaf (store_acts w t a h))
 
-  first_alone : (s : Store) (left : List Store) → within (s, left, []) → rest_of_run fuel picks (blocks_then text array (s ∷ left) [] rest) w ≡ goes_on (s, left, [])
+  first_alone : (s : Store) (left : List Store) → within (s, left, []) → rest_of_run fuel picks (blocks_then array (s ∷ left) [] rest) w ≡ goes_on (s, left, [])
   first_alone s left h =
-      by_step (s ∷ left) [] (s, left, []) (λ due. refl) (step_first (place_at text s.at) (StoreWord array (pos s.index) 0 s.value) (λ _. stores_then text array left (Ended None)) (Ended None) rest w (after_store w s) (first_pick (drop w.cost picks) % 1) s.value (mod_one (first_pick (drop w.cost picks))) (store_acts w s a h))
+      by_step (s ∷ left) [] (s, left, []) (λ due. refl) (step_first s.at (StoreWord array (pos s.index) 0 s.value) (λ _. stores_then array left (Ended None)) (Ended None) rest w (after_store w s) (first_pick (drop w.cost picks) % 1) s.value (mod_one (first_pick (drop w.cost picks))) (store_acts w s a h))
 
-  second_alone : (t : Store) (right : List Store) → within (t, [], right) → rest_of_run fuel picks (blocks_then text array [] (t ∷ right) rest) w ≡ goes_on (t, [], right)
+  second_alone : (t : Store) (right : List Store) → within (t, [], right) → rest_of_run fuel picks (blocks_then array [] (t ∷ right) rest) w ≡ goes_on (t, [], right)
   second_alone t right h =
-      by_step [] (t ∷ right) (t, [], right) (λ due. refl) (step_only (place_at text t.at) (StoreWord array (pos t.index) 0 t.value) (λ _. stores_then text array right (Ended None)) rest w (after_store w t) (first_pick (drop w.cost picks) % 1) t.value (mod_one (first_pick (drop w.cost picks))) (store_acts w t a h))
+      by_step [] (t ∷ right) (t, [], right) (λ due. refl) (step_only t.at (StoreWord array (pos t.index) 0 t.value) (λ _. stores_then array right (Ended None)) rest w (after_store w t) (first_pick (drop w.cost picks) % 1) t.value (mod_one (first_pick (drop w.cost picks))) (store_acts w t a h))
 
   -- the choice of a pick between two stores that are due
-  chosen : (s t : Store) (left right : List Store) (even : Bool) → (first_pick (drop w.cost picks) % 2 == 0) ≡ even → (r : Store × List Store × List Store) → cond even (Some (s, left, t ∷ right)) (Some (t, s ∷ left, right)) ≡ Some r → within r → rest_of_run fuel picks (blocks_then text array (s ∷ left) (t ∷ right) rest) w ≡ goes_on r
+  chosen : (s t : Store) (left right : List Store) (even : Bool) → (first_pick (drop w.cost picks) % 2 == 0) ≡ even → (r : Store × List Store × List Store) → cond even (Some (s, left, t ∷ right)) (Some (t, s ∷ left, right)) ≡ Some r → within r → rest_of_run fuel picks (blocks_then array (s ∷ left) (t ∷ right) rest) w ≡ goes_on r
   chosen s t left right true even r takes h = first_of_both s t left right (subst within (sym (some_is takes)) h) (is_zero (first_pick (drop w.cost picks) % 2) even) ∙ ap goes_on (some_is takes)
   chosen s t left right false odd r takes h = second_of_both s t left right (subst within (sym (some_is takes)) h) (mod_two (first_pick (drop w.cost picks)) odd) ∙ ap goes_on (some_is takes)
 
-  takes_on : (left right : List Store) (r : Store × List Store × List Store) → taken (first_pick (drop w.cost picks)) left right ≡ Some r → within r → rest_of_run fuel picks (blocks_then text array left right rest) w ≡ goes_on r
+  takes_on : (left right : List Store) (r : Store × List Store × List Store) → taken (first_pick (drop w.cost picks)) left right ≡ Some r → within r → rest_of_run fuel picks (blocks_then array left right rest) w ≡ goes_on r
   takes_on [] [] r takes h = absurd cc
   takes_on (s ∷ left) [] r takes h = first_alone s left (subst within (sym (some_is takes)) h) ∙ ap goes_on (some_is takes)
   takes_on [] (t ∷ right) r takes h = second_alone t right (subst within (sym (some_is takes)) h) ∙ ap goes_on (some_is takes)
   takes_on (s ∷ left) (t ∷ right) r takes h = chosen s t left right (first_pick (drop w.cost picks) % 2 == 0) refl r takes h
 
 -- what a pick takes of two blocks goes on in the machine as in the run
-pub blocks_go_on : (fuel : ℕ) (picks text : List ℕ) (pick : ℕ) (left right left' right' : List Store) (s : Store) (rest : Task) (w : World) → pick ≡ first_pick (drop w.cost picks) → w.cost < fuel → IsArray w.memory → s.index < array_len w.memory → taken pick left right ≡ Some (s, left', right') → rest_of_run fuel picks (blocks_then text array left right rest) w ≡ rest_of_run fuel picks (blocks_then text array left' right' rest) (after_store w s)
-blocks_go_on fuel picks text pick left right left' right' s rest w first below a within takes =
-    takes_on fuel picks text rest w below a left right (s, left', right') (ap (λ p. taken p left right) (sym first) ∙ takes) within
+pub blocks_go_on : (fuel : ℕ) (picks : List ℕ) (pick : ℕ) (left right left' right' : List Store) (s : Store) (rest : Task) (w : World) → pick ≡ first_pick (drop w.cost picks) → w.cost < fuel → IsArray w.memory → s.index < array_len w.memory → taken pick left right ≡ Some (s, left', right') → rest_of_run fuel picks (blocks_then array left right rest) w ≡ rest_of_run fuel picks (blocks_then array left' right' rest) (after_store w s)
+blocks_go_on fuel picks pick left right left' right' s rest w first below a within takes =
+    takes_on fuel picks rest w below a left right (s, left', right') (ap (λ p. taken p left right) (sym first) ∙ takes) within
 
 -- blocks where a store is due and the fuel is spent
-pub blocks_spent : (fuel : ℕ) (picks text : List ℕ) (left right : List Store) (rest : Task) (w : World) → w.cost ≡ fuel → (length left ≡ 0 → length right ≡ 0 → ⊥) → rest_of_run fuel picks (blocks_then text array left right rest) w ≡ spent w
-blocks_spent fuel picks text [] [] rest w cost due = absurd (due refl refl)
-blocks_spent fuel picks text (s ∷ left) [] rest w cost due = spent_ends fuel picks (blocks_then text array (s ∷ left) [] rest) w cost (λ due. refl)
-blocks_spent fuel picks text [] (t ∷ right) rest w cost due = spent_ends fuel picks (blocks_then text array [] (t ∷ right) rest) w cost (λ due. refl)
-blocks_spent fuel picks text (s ∷ left) (t ∷ right) rest w cost due = spent_ends fuel picks (blocks_then text array (s ∷ left) (t ∷ right) rest) w cost (λ due. refl)
+pub blocks_spent : (fuel : ℕ) (picks : List ℕ) (left right : List Store) (rest : Task) (w : World) → w.cost ≡ fuel → (length left ≡ 0 → length right ≡ 0 → ⊥) → rest_of_run fuel picks (blocks_then array left right rest) w ≡ spent w
+blocks_spent fuel picks [] [] rest w cost due = absurd (due refl refl)
+blocks_spent fuel picks (s ∷ left) [] rest w cost due = spent_ends fuel picks (blocks_then array (s ∷ left) [] rest) w cost (λ due. refl)
+blocks_spent fuel picks [] (t ∷ right) rest w cost due = spent_ends fuel picks (blocks_then array [] (t ∷ right) rest) w cost (λ due. refl)
+blocks_spent fuel picks (s ∷ left) (t ∷ right) rest w cost due = spent_ends fuel picks (blocks_then array (s ∷ left) (t ∷ right) rest) w cost (λ due. refl)
 
 -- two blocks that have ended go on behind their fork
-pub blocks_ended : (text : List ℕ) (left right : List Store) (rest : Task) → length left ≡ 0 → length right ≡ 0 → blocks_then text array left right rest ≡ rest
-blocks_ended text [] [] rest l r = refl
-blocks_ended text (s ∷ left) right rest l r = absurd (omega arith)
-blocks_ended text [] (t ∷ right) rest l r = absurd (omega arith)
+pub blocks_ended : (left right : List Store) (rest : Task) → length left ≡ 0 → length right ≡ 0 → blocks_then array left right rest ≡ rest
+blocks_ended [] [] rest l r = refl
+blocks_ended (s ∷ left) right rest l r = absurd (omega arith)
+blocks_ended [] (t ∷ right) rest l r = absurd (omega arith)
 
 -- what is taken of two lists, all of whose items have P, and what is left of them, has P
 module _ (P : Store → Type 0) where

@@ -15,7 +15,7 @@ use Rattle.lq_cli.specs.declared.slice.Step.TheVariants.{Store as StoreStep, Pri
 use Rattle.lq_cli.specs.declared.slice.Slice.{Slice}
 use Rattle.lq_cli.specs.Task.{Task, Ended, Due, none, more, or_else, forked}
 use Rattle.lq_cli.specs.Run.{stores_then, steps_then, blocks_then, task_of, run_slice}
-use Rattle.lq_cli.specs.Source.{place_at, int, element, store_statement, step_statement, block_statement, declaration, fork, last, body, program}
+use Rattle.lq_cli.specs.Source.{int, element, store_statement, step_statement, block_statement, declaration, fork, last, body, program}
 use Rattle.lq_cli.proofs.Leaves.{here, first, later, inside_forked}
 use Rattle.lq_cli.proofs.Follows.{Follows, ended_follows, due_follows}
 
@@ -61,31 +61,31 @@ word_of-array name p =
     rw same refl
 
 -- what is behind the fork, and what behind the declaration
-abbrev behind_fork : (text name : List ℕ) → Slice → List Stmt
-behind_fork text name s = map (step_statement text name) s.after ++ last text name s ∷ []
+abbrev behind_fork : (name : List ℕ) → Slice → List Stmt
+behind_fork name s = map (step_statement name) s.after ++ last name s ∷ []
 
-abbrev behind_declaration : (text name : List ℕ) → Slice → List Stmt
-behind_declaration text name s = map (store_statement text name) s.before ++ (fork text name s ∷ behind_fork text name s)
+abbrev behind_declaration : (name : List ℕ) → Slice → List Stmt
+behind_declaration name s = map (store_statement name) s.before ++ (fork name s ∷ behind_fork name s)
 
 -- the task behind the declaration, whose answer is the pointer
-abbrev declared_task : List ℕ → Slice → ℤ → Task
-declared_task text s p = stores_then text p s.before (blocks_then text p s.left.stores s.right.stores (steps_then text p s.after (Ended None)))
+abbrev declared_task : Slice → ℤ → Task
+declared_task s p = stores_then p s.before (blocks_then p s.left.stores s.right.stores (steps_then p s.after (Ended None)))
 
-module _ (c : Context) (text name : List ℕ) (p : ℤ) where
+module _ (c : Context) (name : List ℕ) (p : ℤ) where
   -- a store, where it is due
   abbrev due_store : Stored → World → Evaluated
-  due_store s w = due c (place_at text s.at) (StoreWord p (pos s.index) 0 s.value) w
+  due_store s w = due c s.at (StoreWord p (pos s.index) 0 s.value) w
 
   -- a statement whose word is dropped
   abbrev goes_on : Evaluated → Executed
   goes_on r = with_word r (λ _ w. GoesOn (array name p) w)
 
   -- the statement of a store
-  exec-store : (s : Stored) (w : World) → exec c (place_at text s.at) (store_statement text name s).kind (array name p) w ≡ goes_on (due_store s w)
+  exec-store : (s : Stored) (w : World) → exec c s.at (store_statement name s).kind (array name p) w ≡ goes_on (due_store s w)
   exec-store s w =
       ap goes_on
-      (store_into-index c (place_at text s.at) (array name p) (Var name) (Num (pos s.index)) (Num s.value) w
-      ∙ ap (λ q. due c (place_at text s.at) (StoreWord q (pos s.index) 0 s.value) w) (word_of-array name p))
+      (store_into-index c s.at (array name p) (Var name) (Num (pos s.index)) (Num s.value) w
+      ∙ ap (λ q. due c s.at (StoreWord q (pos s.index) 0 s.value) w) (word_of-array name p))
 
   -- the statements from here on
   abbrev from : List Stmt → World → Outcome
@@ -93,15 +93,15 @@ module _ (c : Context) (text name : List ℕ) (p : ℤ) where
 
   -- a store, and then the rest
   store_follows : (s : Stored) (rest : List Stmt) (task : Task) → Follows c (from rest) task →
-      Follows c (from (store_statement text name s ∷ rest)) (Due (place_at text s.at) (StoreWord p (pos s.index) 0 s.value) (λ _. task))
+      Follows c (from (store_statement name s ∷ rest)) (Due s.at (StoreWord p (pos s.index) 0 s.value) (λ _. task))
   store_follows s rest task follows = λ k w e.
       ap (λ x. ended (then_do x (exec_all c rest))) (exec-store s w)
       ∙ (then_do-with_word (due_store s w) (λ _. array name p) (exec_all c rest)
-      ∙ alone_follows c (λ _. from rest) (place_at text s.at) (StoreWord p (pos s.index) 0 s.value) (λ _. task) (λ _. follows) k w e)
+      ∙ alone_follows c (λ _. from rest) s.at (StoreWord p (pos s.index) 0 s.value) (λ _. task) (λ _. follows) k w e)
 
   -- the statement of a print
   exec-print : (at : Place) (index : ℕ) (w : World) →
-      exec c at (Print (element text name index)) (array name p) w
+      exec c at (Print (element name index)) (array name p) w
       ≡ goes_on (with_word_of (due c at (Load p (pos index) 0) w) (λ number w. due c at (PrintNumber number) w))
   exec-print at index w =
       ap (λ r. goes_on (with_word_of r (λ number w. due c at (PrintNumber number) w)))
@@ -110,7 +110,7 @@ module _ (c : Context) (text name : List ℕ) (p : ℤ) where
 
   -- a print, and then the rest
   print_follows : (at : Place) (index : ℕ) (rest : List Stmt) (task : Task) → Follows c (from rest) task →
-      Follows c (from (record { at = at; kind = Print (element text name index) } ∷ rest))
+      Follows c (from (record { at = at; kind = Print (element name index) } ∷ rest))
       (Due at (Load p (pos index) 0) (λ number. Due at (PrintNumber number) (λ _. task)))
   print_follows at index rest task follows = λ k w e.
       ap (λ x. ended (then_do x (exec_all c rest))) (exec-print at index w)
@@ -121,31 +121,31 @@ module _ (c : Context) (text name : List ℕ) (p : ℤ) where
 
   -- stores, and then the rest
   stores_follow : (stores : List Stored) (rest : List Stmt) (task : Task) → Follows c (from rest) task →
-      Follows c (from (map (store_statement text name) stores ++ rest)) (stores_then text p stores task)
+      Follows c (from (map (store_statement name) stores ++ rest)) (stores_then p stores task)
   stores_follow [] rest task follows = follows
   stores_follow (s ∷ stores) rest task follows =
-      store_follows s (map (store_statement text name) stores ++ rest) (stores_then text p stores task) (stores_follow stores rest task follows)
+      store_follows s (map (store_statement name) stores ++ rest) (stores_then p stores task) (stores_follow stores rest task follows)
 
   -- the stores and prints behind the fork, and then the rest
   steps_follow : (steps : List Step) (rest : List Stmt) (task : Task) → Follows c (from rest) task →
-      Follows c (from (map (step_statement text name) steps ++ rest)) (steps_then text p steps task)
+      Follows c (from (map (step_statement name) steps ++ rest)) (steps_then p steps task)
   steps_follow [] rest task follows = follows
   steps_follow (StoreStep s ∷ steps) rest task follows =
-      store_follows s (map (step_statement text name) steps ++ rest) (steps_then text p steps task) (steps_follow steps rest task follows)
+      store_follows s (map (step_statement name) steps ++ rest) (steps_then p steps task) (steps_follow steps rest task follows)
   steps_follow (PrintStep at index ∷ steps) rest task follows =
-      print_follows (place_at text at) index (map (step_statement text name) steps ++ rest) (steps_then text p steps task) (steps_follow steps rest task follows)
+      print_follows at index (map (step_statement name) steps ++ rest) (steps_then p steps task) (steps_follow steps rest task follows)
 
   -- a block of which one statement is done and these stores are left; its locals end with it
   abbrev block_from : Executed → List Stored → Executed
-  block_from x stores = outside (array name p) (then_do x (exec_all c (map (store_statement text name) stores)))
+  block_from x stores = outside (array name p) (then_do x (exec_all c (map (store_statement name) stores)))
 
   -- a block with all its stores
   abbrev whole_block : List Stored → World → Executed
-  whole_block stores w = outside (array name p) (exec_all c (map (store_statement text name) stores) (array name p) w)
+  whole_block stores w = outside (array name p) (exec_all c (map (store_statement name) stores) (array name p) w)
 
   -- the task of a block
   abbrev branch : List Stored → Task
-  branch stores = stores_then text p stores (Ended None)
+  branch stores = stores_then p stores (Ended None)
 
   -- the two blocks of a fork, and what is behind it
   module _ (rest : List Stmt) (task : Task) (follows : Follows c (from rest) task) where
@@ -185,7 +185,7 @@ module _ (c : Context) (text name : List ℕ) (p : ℤ) where
         (record {
           spent = λ w. refl;
           strayed = λ w. refl;
-          trapped = λ kind. right_trapped one (record { kind = kind; at = place_at text s.at });
+          trapped = λ kind. right_trapped one (record { kind = kind; at = s.at });
           gives = λ word. right_follows right one;
         })
         k w e
@@ -201,52 +201,52 @@ module _ (c : Context) (text name : List ℕ) (p : ℤ) where
         (record {
           spent = λ w. refl;
           strayed = λ w. refl;
-          trapped = λ kind. right_follows right (Some (record { kind = kind; at = place_at text s.at }));
+          trapped = λ kind. right_follows right (Some (record { kind = kind; at = s.at }));
           gives = λ word. left_follows left right;
         })
         k w e
 
     -- the statement of the fork
     exec-fork : (s : Slice) (w : World) →
-        exec c (place_at text s.fork) (fork text name s).kind (array name p) w
+        exec c s.fork (fork name s).kind (array name p) w
         ≡ after_branch (whole_block s.left.stores w) None (λ one w. after_branch (whole_block s.right.stores w) one (joined (array name p)))
     exec-fork s w =
-        exec-cobegin c (place_at text s.fork) (block_statement text name s.left ∷ block_statement text name s.right ∷ []) (array name p) w
+        exec-cobegin c s.fork (block_statement name s.left ∷ block_statement name s.right ∷ []) (array name p) w
         ∙ (λ i.
-        after_branch (exec-block c (place_at text s.left.at) (map (store_statement text name) s.left.stores) (array name p) w i) None
+        after_branch (exec-block c s.left.at (map (store_statement name) s.left.stores) (array name p) w i) None
         (λ one w.
-        after_branch (exec-block c (place_at text s.right.at) (map (store_statement text name) s.right.stores) (array name p) w i) one
+        after_branch (exec-block c s.right.at (map (store_statement name) s.right.stores) (array name p) w i) one
         (joined (array name p))))
 
     -- the fork, and then the rest
-    fork_follows : (s : Slice) → Follows c (from (fork text name s ∷ rest)) (blocks_then text p s.left.stores s.right.stores task)
+    fork_follows : (s : Slice) → Follows c (from (fork name s ∷ rest)) (blocks_then p s.left.stores s.right.stores task)
     fork_follows s = λ k w e. ap (λ x. ended (then_do x (exec_all c rest))) (exec-fork s w) ∙ left_follows s.left.stores s.right.stores k w e
 
   -- all statements behind the declaration
-  declared_follows : (s : Slice) → Follows c (from (behind_declaration text name s)) (declared_task text s p)
+  declared_follows : (s : Slice) → Follows c (from (behind_declaration name s)) (declared_task s p)
   declared_follows s =
-      let steps = steps_follow s.after (last text name s ∷ []) (Ended None) (ended_follows c None) in
-      let blocks = fork_follows (behind_fork text name s) (steps_then text p s.after (Ended None)) steps s in
-      stores_follow s.before (fork text name s ∷ behind_fork text name s)
-      (blocks_then text p s.left.stores s.right.stores (steps_then text p s.after (Ended None))) blocks
+      let steps = steps_follow s.after (last name s ∷ []) (Ended None) (ended_follows c None) in
+      let blocks = fork_follows (behind_fork name s) (steps_then p s.after (Ended None)) steps s in
+      stores_follow s.before (fork name s ∷ behind_fork name s)
+      (blocks_then p s.left.stores s.right.stores (steps_then p s.after (Ended None))) blocks
 
-module _ (c : Context) (text name : List ℕ) where
+module _ (c : Context) (name : List ℕ) where
   -- the statement of the declaration
   exec-declaration : (s : Slice) (w : World) →
-      exec c (place_at text s.declaration) (declaration text name s).kind [] w
-      ≡ with_word (due c (place_at text s.declaration) (Allocate (pos s.count) 1) w) (λ p w. GoesOn (array name p) w)
+      exec c s.declaration (declaration name s).kind [] w
+      ≡ with_word (due c s.declaration (Allocate (pos s.count) 1) w) (λ p w. GoesOn (array name p) w)
   exec-declaration s w =
-      ap (λ r. with_word r (λ p w. GoesOn (array name p) w)) (eval-calloc c (place_at text s.declaration) [] (Num (pos s.count)) int w)
+      ap (λ r. with_word r (λ p w. GoesOn (array name p) w)) (eval-calloc c s.declaration [] (Num (pos s.count)) int w)
 
   -- the whole body of main
-  body_follows : (s : Slice) → Follows c (λ w. ended (exec_all c (body text name s) [] w)) (task_of text s)
+  body_follows : (s : Slice) → Follows c (λ w. ended (exec_all c (body name s) [] w)) (task_of s)
   body_follows s = λ k w e.
-      let rest = behind_declaration text name s in
+      let rest = behind_declaration name s in
       ap (λ x. ended (then_do x (exec_all c rest))) (exec-declaration s w)
-      ∙ (then_do-with_word (due c (place_at text s.declaration) (Allocate (pos s.count) 1) w) (array name) (exec_all c rest)
-      ∙ alone_follows c (λ p. from c text name p rest) (place_at text s.declaration) (Allocate (pos s.count) 1) (declared_task text s)
-      (λ p. declared_follows c text name p s) k w e)
+      ∙ (then_do-with_word (due c s.declaration (Allocate (pos s.count) 1) w) (array name) (exec_all c rest)
+      ∙ alone_follows c (λ p. from c name p rest) s.declaration (Allocate (pos s.count) 1) (declared_task s)
+      (λ p. declared_follows c name p s) k w e)
 
 -- The sequential execution of a slice is its run with no picks.
-pub in_order : (text name : List ℕ) (s : Slice) (fuel words : ℕ) → sequential fuel words (program text name s) ≡ run_slice text fuel words [] s
-in_order text name s fuel words = body_follows (record { fuel = fuel; structs = [] }) text name s fuel (start words) (zero-add fuel)
+pub in_order : (name : List ℕ) (s : Slice) (fuel words : ℕ) → sequential fuel words (program name s) ≡ run_slice fuel words [] s
+in_order name s fuel words = body_follows (record { fuel = fuel; structs = [] }) name s fuel (start words) (zero-add fuel)

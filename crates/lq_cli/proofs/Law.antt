@@ -9,9 +9,9 @@ use Rattle.lq_cli.proofs.SliceClean.{slice_clean}
 
 -- by way of the run with no picks
 pub picks_law : PicksDoNotMatter
-picks_law text name s fuel words picks accepted =
-    let clean = slice_clean text s words fuel accepted in (
-      λ at. never_strays at fuel picks (task_of text s) (start words) clean,
-      subst (λ outcome. Agree (run_slice text fuel words picks s) outcome) (sym (in_order text name s fuel words))
-          (runs_alike fuel picks [] (task_of text s) (start words) clean),
+picks_law name s fuel words picks accepted =
+    let clean = slice_clean s words fuel accepted in (
+      λ at. never_strays at fuel picks (task_of s) (start words) clean,
+      subst (λ outcome. Agree (run_slice fuel words picks s) outcome) (sym (in_order name s fuel words))
+          (runs_alike fuel picks [] (task_of s) (start words) clean),
     )

@@ -1,10 +1,5 @@
-pub mod NumberLemmas
-pub mod RestLemmas
-pub mod SliceStatements
-pub mod SliceLists
-pub mod SliceLoops
+pub mod SliceParts
 pub mod SliceWhole
-pub mod SliceText
 pub mod Leaves
 pub mod Commute
 pub mod Runs
@@ -28,3 +23,4 @@ pub mod PickNumbers
 pub mod Prepared
 pub mod Stopped
 pub mod Told
+pub mod TextStops

@@ -8,7 +8,7 @@ use Rattle.lq_shelf.specs.Shelf.{Holding, AreFirstOf}
 use Rattle.lq_cli.specs.declared.answer.Quantity.{Quantity}
 use Rattle.lq_cli.specs.declared.answer.Quantity.TheVariants.{PickBytes as PickBytesQuantity, PickNumbers}
 use Rattle.lq_cli.specs.declared.answer.Answer.{Answer}
-use Rattle.lq_cli.specs.declared.answer.Answer.TheVariants.{BadWords, ReadFault, Limit, Outside, BadPickLine, Literal, Trap, Fuel}
+use Rattle.lq_cli.specs.declared.answer.Answer.TheVariants.{BadWords, ReadFault, Limit, Lexical, Annotation, Syntax, Names, Outside, BadPickLine, Literal, Trap, Fuel}
 use Rattle.lq_cli.specs.declared.ready.Stop.{Stop}
 use Rattle.lq_cli.specs.declared.ready.Stop.TheVariants.{Told, NoMemory}
 use Rattle.lq_cli.specs.Lines.{read_fault, limit}
@@ -26,13 +26,17 @@ moved held shelf name other allowed bytes is same f =
 module _ (shelf : List ℕ → Holding) (Failed : List ℕ → Type 0) (name : List ℕ) where
   -- a fetch of the picks that stops
   fetch_tells : (answer : Answer) → Fetches shelf Failed name PickBytesQuantity answer → PicksStop (shelf name) Failed name (Told answer)
-  fetch_tells (ReadFault other) stops = λ held means c text array s picks same.
-      subst (λ (n : List ℕ). SliceAnswers held Failed means c text array s 9 (read_fault n)) (picks ∙ sym stops.0) (picks_fault (subst Failed (sym picks) stops.1))
-  fetch_tells (Limit quantity found) stops = λ held means c text array s picks same.
+  fetch_tells (ReadFault other) stops = λ held means c tree s picks same.
+      subst (λ (n : List ℕ). SliceAnswers held Failed means c tree s 9 (read_fault n)) (picks ∙ sym stops.0) (picks_fault (subst Failed (sym picks) stops.1))
+  fetch_tells (Limit quantity found) stops = λ held means c tree s picks same.
       let fetched = moved held shelf name c.picks most_pick_bytes stops.1 picks same stops.3 in
-      subst (λ (n : ℕ). SliceAnswers held Failed means c text array s 7 (limit (quantity_text quantity) n (allowed_of quantity))) (sym stops.2)
-      (subst (λ (q : Quantity). SliceAnswers held Failed means c text array s 7 (limit (quantity_text q) (length stops.1) (allowed_of q))) (sym stops.0) (pick_bytes stops.1 fetched stops.4))
+      subst (λ (n : ℕ). SliceAnswers held Failed means c tree s 7 (limit (quantity_text quantity) n (allowed_of quantity))) (sym stops.2)
+      (subst (λ (q : Quantity). SliceAnswers held Failed means c tree s 7 (limit (quantity_text q) (length stops.1) (allowed_of q))) (sym stops.0) (pick_bytes stops.1 fetched stops.4))
   fetch_tells BadWords stops = absurd stops
+  fetch_tells (Lexical at) stops = absurd stops
+  fetch_tells (Annotation at) stops = absurd stops
+  fetch_tells (Syntax at) stops = absurd stops
+  fetch_tells (Names rule at) stops = absurd stops
   fetch_tells Outside stops = absurd stops
   fetch_tells (BadPickLine n) stops = absurd stops
   fetch_tells (Literal at) stops = absurd stops
@@ -49,14 +53,14 @@ module _ (shelf : List ℕ → Holding) (Failed : List ℕ → Type 0) (name : L
 
     -- a bad line
     pub numbers_stop : (fault : NumbersFault) → ((number : ℕ) → fault ≡ BadLine number → IsFirstBadLine (pos 0) bytes number) → PicksStop (shelf name) Failed name (stop_of_picks fault)
-    numbers_stop (BadLine number) bad = λ held means c text array s picks same. bad_pick_line bytes number (held_bytes held c picks same) (bad number refl)
+    numbers_stop (BadLine number) bad = λ held means c tree s picks same. bad_pick_line bytes number (held_bytes held c picks same) (bad number refl)
     numbers_stop NoNumbersMemory bad = tt
 
     -- too many numbers
     pub too_many : (numbers : List ℤ) (count : ℕ) → count ≡ length numbers → IsNumbersFile (pos 0) bytes numbers → most_pick_numbers < length numbers → PicksStop (shelf name) Failed name (Told (Limit PickNumbers count))
-    too_many numbers count is_count file past held means c text array s picks same =
+    too_many numbers count is_count file past held means c tree s picks same =
         let counted : length (map unsigned_abs numbers) ≡ length numbers = length-map numbers unsigned_abs in
-        subst (λ (n : ℕ). SliceAnswers held Failed means c text array s 7 (limit (quantity_text PickNumbers) n most_pick_numbers)) (counted ∙ sym is_count)
+        subst (λ (n : ℕ). SliceAnswers held Failed means c tree s 7 (limit (quantity_text PickNumbers) n most_pick_numbers)) (counted ∙ sym is_count)
         (pick_numbers bytes (map unsigned_abs numbers) (held_bytes held c picks same) (IsNumbersFile-picks bytes numbers (map unsigned_abs numbers) file refl) (subst (λ (n : ℕ). most_pick_numbers < n) (sym counted) past))
 
     -- picks

@@ -15,7 +15,6 @@ use Rattle.lq_cli.specs.declared.slice.Step.TheVariants.{Store as StoreStep, Pri
 use Rattle.lq_cli.specs.declared.slice.Slice.{Slice}
 use Rattle.lq_cli.specs.Task.{Task, Ended, Due, Fork, Tasks, none, more, runnable, all_runnable, forked, moved, resumed}
 use Rattle.lq_cli.specs.Run.{stores_then, steps_then, blocks_then, task_of}
-use Rattle.lq_cli.specs.Source.{place_at}
 use Rattle.lq_cli.specs.Literal.{step_index, IsAccepted}
 use Rattle.lq_cli.proofs.Leaves.{Leaf, here, inside, LeafIn, first, later, Leaf-number, LeafIn-number}
 use Rattle.lq_cli.proofs.Clean.{StaysClean, IsClean, clean_ended, clean_alone, clean_by_leaves}
@@ -47,12 +46,12 @@ alone_over count at action next keeps behind (suc n) w a =
     let k = keeps w a in
     clean_alone n at action next w (subst (λ r. StaysClean (IsClean n) (resumed at next r)) (sym k.answers) (behind k.word n k.after k.array_stays))
 
-module _ (text : List ℕ) (count : ℕ) where
+module _ (count : ℕ) where
   -- stores, and then the rest
-  stores_over : (stores : List Stored) (rest : Task) → All (Below count) stores → CleanOver count rest → CleanOver count (stores_then text array stores rest)
+  stores_over : (stores : List Stored) (rest : Task) → All (Below count) stores → CleanOver count rest → CleanOver count (stores_then array stores rest)
   stores_over [] rest below clean = clean
   stores_over (s ∷ stores) rest below clean =
-      alone_over count (place_at text s.at) (StoreWord array (pos s.index) 0 s.value) (λ _. stores_then text array stores rest)
+      alone_over count s.at (StoreWord array (pos s.index) 0 s.value) (λ _. stores_then array stores rest)
       (λ w a. store_keeps count s.index s.value w a (All-head (Below count) s stores below))
       (λ _. stores_over stores rest (All-tail (Below count) s stores below) clean)
 
@@ -61,23 +60,23 @@ module _ (text : List ℕ) (count : ℕ) where
   print_keeps number w a = record { word = _; after = _; answers = refl; array_stays = a }
 
   -- stores and prints, and then the rest
-  steps_over : (steps : List Step) (rest : Task) → All (StepBelow count) steps → CleanOver count rest → CleanOver count (steps_then text array steps rest)
+  steps_over : (steps : List Step) (rest : Task) → All (StepBelow count) steps → CleanOver count rest → CleanOver count (steps_then array steps rest)
   steps_over [] rest below clean = clean
   steps_over (StoreStep s ∷ steps) rest below clean =
-      alone_over count (place_at text s.at) (StoreWord array (pos s.index) 0 s.value) (λ _. steps_then text array steps rest)
+      alone_over count s.at (StoreWord array (pos s.index) 0 s.value) (λ _. steps_then array steps rest)
       (λ w a. store_keeps count s.index s.value w a (All-head (StepBelow count) (StoreStep s) steps below))
       (λ _. steps_over steps rest (All-tail (StepBelow count) (StoreStep s) steps below) clean)
   steps_over (PrintStep at index ∷ steps) rest below clean =
-      alone_over count (place_at text at) (Load array (pos index) 0)
-      (λ number. Due (place_at text at) (PrintNumber number) (λ _. steps_then text array steps rest))
+      alone_over count at (Load array (pos index) 0)
+      (λ number. Due at (PrintNumber number) (λ _. steps_then array steps rest))
       (λ w a. load_keeps count index w a (All-head (StepBelow count) (PrintStep at index) steps below))
       (λ number.
-      alone_over count (place_at text at) (PrintNumber number) (λ _. steps_then text array steps rest) (print_keeps number)
+      alone_over count at (PrintNumber number) (λ _. steps_then array steps rest) (print_keeps number)
       (λ _. steps_over steps rest (All-tail (StepBelow count) (PrintStep at index) steps below) clean))
 
   -- a block in progress
   abbrev branch : List Stored → Task
-  branch stores = stores_then text array stores (Ended None)
+  branch stores = stores_then array stores (Ended None)
 
   -- the one leaf of a block in progress is its first store
   record FirstStore (stores : List Stored) (k : ℕ) (action : Action) (next : ℤ → Task) (put : Task → Task) : Type 0 where
@@ -214,15 +213,15 @@ declared_clean n (suc k) words at next some clean =
     (λ _. clean n _ (record { fields = refl; words = length-replicate (suc k * 1) (pos 0) ∙ mul-one (suc k) }))
 
 -- The task of an accepted slice is clean for every number of steps.
-pub slice_clean : (text : List ℕ) (s : Slice) (words n : ℕ) → IsAccepted s → IsClean n (task_of text s) (start words)
-slice_clean text s words zero accepted = tt
-slice_clean text s words (suc n) accepted =
+pub slice_clean : (s : Slice) (words n : ℕ) → IsAccepted s → IsClean n (task_of s) (start words)
+slice_clean s words zero accepted = tt
+slice_clean s words (suc n) accepted =
     let f = Accepted-from_check s accepted in
-    let rest = steps_then text array s.after (Ended None) in
-    let steps = steps_over text s.count s.after (Ended None) f.after (λ n w a. clean_ended n None w) in
-    let blocks : CleanOver s.count (blocks_then text array s.left.stores s.right.stores rest) = λ n w a.
-    fork_over text s.count rest steps n s.left.stores s.right.stores w a (record { left_below = f.left; right_below = f.right; differ = f.differ }) in
-    let whole = stores_over text s.count s.before (blocks_then text array s.left.stores s.right.stores rest) f.before blocks in
-    clean_alone n (place_at text s.declaration) (Allocate (pos s.count) 1)
-    (λ p. stores_then text p s.before (blocks_then text p s.left.stores s.right.stores (steps_then text p s.after (Ended None)))) (start words)
-    (declared_clean n s.count words (place_at text s.declaration) _ f.some whole)
+    let rest = steps_then array s.after (Ended None) in
+    let steps = steps_over s.count s.after (Ended None) f.after (λ n w a. clean_ended n None w) in
+    let blocks : CleanOver s.count (blocks_then array s.left.stores s.right.stores rest) = λ n w a.
+    fork_over s.count rest steps n s.left.stores s.right.stores w a (record { left_below = f.left; right_below = f.right; differ = f.differ }) in
+    let whole = stores_over s.count s.before (blocks_then array s.left.stores s.right.stores rest) f.before blocks in
+    clean_alone n s.declaration (Allocate (pos s.count) 1)
+    (λ p. stores_then p s.before (blocks_then p s.left.stores s.right.stores (steps_then p s.after (Ended None)))) (start words)
+    (declared_clean n s.count words s.declaration _ f.some whole)

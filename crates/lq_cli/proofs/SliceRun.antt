@@ -23,7 +23,6 @@ use Rattle.lq_cli.specs.declared.slice.Step.TheVariants.{Store as StoreStep, Pri
 use Rattle.lq_cli.specs.declared.slice.Slice.{Slice}
 use Rattle.lq_cli.specs.Literal.{step_index}
 use Rattle.lq_cli.specs.Task.{Ended, resumed}
-use Rattle.lq_cli.specs.Source.{place_at}
 use Rattle.lq_cli.specs.Run.{run, run_slice, task_of, then_run, other_picks, ending_of, stores_then, blocks_then, steps_then}
 use Rattle.lq_cli.specs.Machine.{IsArray, array, array_len, world_of, rest_of_run, spent, behind_calloc, RunsOn, GoesOn, StepWithin, end_of}
 use Rattle.lq_cli.specs.Lines.{number_lines}
@@ -37,30 +36,30 @@ run_ended zero picks trap w = refl
 run_ended (suc fuel) picks trap w = refl
 
 -- the stores before the blocks come first
-pub stores_first : (text : List ℕ) (s : Slice) (before : List Store) → before ≡ s.before → behind_calloc text s ≡ stores_then text array before (blocks_then text array s.left.stores s.right.stores (steps_then text array s.after (Ended None)))
-stores_first text s before e = ap (λ (b : List Store). stores_then text array b (blocks_then text array s.left.stores s.right.stores (steps_then text array s.after (Ended None)))) (sym e)
+pub stores_first : (s : Slice) (before : List Store) → before ≡ s.before → behind_calloc s ≡ stores_then array before (blocks_then array s.left.stores s.right.stores (steps_then array s.after (Ended None)))
+stores_first s before e = ap (λ (b : List Store). stores_then array b (blocks_then array s.left.stores s.right.stores (steps_then array s.after (Ended None)))) (sym e)
 
 -- and then the blocks
-pub blocks_next : (text : List ℕ) (s : Slice) (left right : List Store) → left ≡ s.left.stores → right ≡ s.right.stores → blocks_then text array s.left.stores s.right.stores (steps_then text array s.after (Ended None)) ≡ blocks_then text array left right (steps_then text array s.after (Ended None))
-blocks_next text s left right l r =
-    ap (λ (b : List Store). blocks_then text array b s.right.stores (steps_then text array s.after (Ended None))) (sym l)
-    ∙ ap (λ (b : List Store). blocks_then text array left b (steps_then text array s.after (Ended None))) (sym r)
+pub blocks_next : (s : Slice) (left right : List Store) → left ≡ s.left.stores → right ≡ s.right.stores → blocks_then array s.left.stores s.right.stores (steps_then array s.after (Ended None)) ≡ blocks_then array left right (steps_then array s.after (Ended None))
+blocks_next s left right l r =
+    ap (λ (b : List Store). blocks_then array b s.right.stores (steps_then array s.after (Ended None))) (sym l)
+    ∙ ap (λ (b : List Store). blocks_then array left b (steps_then array s.after (Ended None))) (sym r)
 
 -- statements behind others that are made go on as the last of them
-pub steps_run_on : (fuel : ℕ) (picks : List ℕ) (s : Slice) (old middle new : Machine) (numbers : List ℤ) (result : Result Bool Put) → ((text : List ℕ) (left : ℕ) (printed : List ℤ) → rest_of_run fuel picks (behind_calloc text s) (world_of old left printed) ≡ rest_of_run fuel picks (steps_then text array s.after (Ended None)) (world_of middle left printed)) → (after : List Step) → after ≡ s.after → GoesOn fuel picks after middle new numbers result → RunsOn fuel picks s old new numbers result
-steps_run_on fuel picks s old middle new numbers (Ok true) before after e goes = λ text left printed.
-    before text left printed ∙ ap (λ ss. rest_of_run fuel picks (steps_then text array ss (Ended None)) (world_of middle left printed)) (sym e) ∙ goes text (Ended None) left printed ∙ run_ended _ _ None (world_of new left (printed ++ numbers))
-steps_run_on fuel picks s old middle new numbers (Ok false) before after e goes = λ text left printed.
-    before text left printed ∙ ap (λ ss. rest_of_run fuel picks (steps_then text array ss (Ended None)) (world_of middle left printed)) (sym e) ∙ goes text (Ended None) left printed
-steps_run_on fuel picks s old middle new numbers (Err fault) before after e goes = λ text left printed.
-    let g = goes text (Ended None) left printed in
+pub steps_run_on : (fuel : ℕ) (picks : List ℕ) (s : Slice) (old middle new : Machine) (numbers : List ℤ) (result : Result Bool Put) → ((left : ℕ) (printed : List ℤ) → rest_of_run fuel picks (behind_calloc s) (world_of old left printed) ≡ rest_of_run fuel picks (steps_then array s.after (Ended None)) (world_of middle left printed)) → (after : List Step) → after ≡ s.after → GoesOn fuel picks after middle new numbers result → RunsOn fuel picks s old new numbers result
+steps_run_on fuel picks s old middle new numbers (Ok true) before after e goes = λ left printed.
+    before left printed ∙ ap (λ ss. rest_of_run fuel picks (steps_then array ss (Ended None)) (world_of middle left printed)) (sym e) ∙ goes (Ended None) left printed ∙ run_ended _ _ None (world_of new left (printed ++ numbers))
+steps_run_on fuel picks s old middle new numbers (Ok false) before after e goes = λ left printed.
+    before left printed ∙ ap (λ ss. rest_of_run fuel picks (steps_then array ss (Ended None)) (world_of middle left printed)) (sym e) ∙ goes (Ended None) left printed
+steps_run_on fuel picks s old middle new numbers (Err fault) before after e goes = λ left printed.
+    let g = goes (Ended None) left printed in
     let adds = run_adds (fuel - g.1.cost) (drop g.1.cost picks) g.0 g.1 in
-    (adds.0, ap (λ (o : Outcome). o.world.printed) (before text left printed ∙ ap (λ ss. rest_of_run fuel picks (steps_then text array ss (Ended None)) (world_of middle left printed)) (sym e) ∙ g.3) ∙ adds.1 ∙ ap (λ ns. ns ++ adds.0) g.2 ∙ append_assoc printed numbers adds.0)
+    (adds.0, ap (λ (o : Outcome). o.world.printed) (before left printed ∙ ap (λ ss. rest_of_run fuel picks (steps_then array ss (Ended None)) (world_of middle left printed)) (sym e) ∙ g.3) ∙ adds.1 ∙ ap (λ ns. ns ++ adds.0) g.2 ∙ append_assoc printed numbers adds.0)
 
 -- where the fuel is spent, nothing was printed
-pub spent_runs_on : (fuel : ℕ) (picks : List ℕ) (s : Slice) (old new : Machine) → ((text : List ℕ) (left : ℕ) (printed : List ℤ) → rest_of_run fuel picks (behind_calloc text s) (world_of old left printed) ≡ spent (world_of new left printed)) → RunsOn fuel picks s old new [] (Ok false)
-spent_runs_on fuel picks s old new ends = λ text left printed.
-    ends text left printed ∙ ap (λ ns. spent (world_of new left ns)) (sym (append-nil printed))
+pub spent_runs_on : (fuel : ℕ) (picks : List ℕ) (s : Slice) (old new : Machine) → ((left : ℕ) (printed : List ℤ) → rest_of_run fuel picks (behind_calloc s) (world_of old left printed) ≡ spent (world_of new left printed)) → RunsOn fuel picks s old new [] (Ok false)
+spent_runs_on fuel picks s old new ends = λ left printed.
+    ends left printed ∙ ap (λ ns. spent (world_of new left ns)) (sym (append-nil printed))
 
 step_within : (count : ℕ) (t : Step) → step_index t < count → StepWithin count t
 step_within count (StoreStep s) h = h
@@ -96,27 +95,27 @@ allocates_too_much (suc n) words much =
     allocates_none (suc n) words yes
 
 -- the run of a slice is the rest of a run from its start
-pub run_from_start : (text : List ℕ) (fuel words : ℕ) (picks : List ℕ) (s : Slice) → run_slice text fuel words picks s ≡ rest_of_run fuel picks (task_of text s) (start words)
-run_from_start text fuel words picks s =
+pub run_from_start : (fuel words : ℕ) (picks : List ℕ) (s : Slice) → run_slice fuel words picks s ≡ rest_of_run fuel picks (task_of s) (start words)
+run_from_start fuel words picks s =
     let all : fuel ≡ fuel - 0 = omega arith in
-    ap (λ n. run n picks (task_of text s) (start words)) all
+    ap (λ n. run n picks (task_of s) (start words)) all
 
 -- a slice whose array has room goes on behind its `calloc`
-pub run_goes_on : (text : List ℕ) (fuel words : ℕ) (picks : List ℕ) (s : Slice) → 0 < fuel → 0 < s.count → s.count ≤ words → run_slice text fuel words picks s ≡ rest_of_run fuel picks (behind_calloc text s) (behind_start s.count words)
-run_goes_on text fuel words picks s some count enough =
-    run_from_start text fuel words picks s
-    ∙ due_goes_on fuel picks (place_at text s.declaration) (Allocate (pos s.count) 1) (λ p. stores_then text p s.before (blocks_then text p s.left.stores s.right.stores (steps_then text p s.after (Ended None)))) (start words) (behind_start s.count words) array some refl (allocates s.count words count enough)
+pub run_goes_on : (fuel words : ℕ) (picks : List ℕ) (s : Slice) → 0 < fuel → 0 < s.count → s.count ≤ words → run_slice fuel words picks s ≡ rest_of_run fuel picks (behind_calloc s) (behind_start s.count words)
+run_goes_on fuel words picks s some count enough =
+    run_from_start fuel words picks s
+    ∙ due_goes_on fuel picks s.declaration (Allocate (pos s.count) 1) (λ p. stores_then p s.before (blocks_then p s.left.stores s.right.stores (steps_then p s.after (Ended None)))) (start words) (behind_start s.count words) array some refl (allocates s.count words count enough)
 
 -- one whose array has none traps
-pub run_traps : (text : List ℕ) (fuel words : ℕ) (picks : List ℕ) (s : Slice) → 0 < fuel → words < s.count → run_slice text fuel words picks s ≡ record { ending = Trapped (record { kind = Words; at = place_at text s.declaration }); world = counted (start words) }
-run_traps text zero words picks s some much = absurd (omega arith)
-run_traps text (suc n) words picks s some much =
-    ap (λ a. then_run (resumed (place_at text s.declaration) (λ p. stores_then text p s.before (blocks_then text p s.left.stores s.right.stores (steps_then text p s.after (Ended None)))) a) (run n (other_picks picks))) (allocates_too_much s.count words much)
-    ∙ run_ended n (other_picks picks) (Some (record { kind = Words; at = place_at text s.declaration })) (counted (start words))
+pub run_traps : (fuel words : ℕ) (picks : List ℕ) (s : Slice) → 0 < fuel → words < s.count → run_slice fuel words picks s ≡ record { ending = Trapped (record { kind = Words; at = s.declaration }); world = counted (start words) }
+run_traps zero words picks s some much = absurd (omega arith)
+run_traps (suc n) words picks s some much =
+    ap (λ a. then_run (resumed s.declaration (λ p. stores_then p s.before (blocks_then p s.left.stores s.right.stores (steps_then p s.after (Ended None)))) a) (run n (other_picks picks))) (allocates_too_much s.count words much)
+    ∙ run_ended n (other_picks picks) (Some (record { kind = Words; at = s.declaration })) (counted (start words))
 
 -- where there is no fuel, the `calloc` is not made
-pub run_without_fuel : (text : List ℕ) (words : ℕ) (picks : List ℕ) (s : Slice) → run_slice text 0 words picks s ≡ record { ending = Spent; world = start words }
-run_without_fuel text words picks s = refl
+pub run_without_fuel : (words : ℕ) (picks : List ℕ) (s : Slice) → run_slice 0 words picks s ≡ record { ending = Spent; world = start words }
+run_without_fuel words picks s = refl
 
 -- the memory behind the `calloc` is the array
 pub IsArray-new : (count : ℕ) → IsArray (with_block [] 1 count)
@@ -126,22 +125,22 @@ pub array_len-new : (count : ℕ) → array_len (with_block [] 1 count) ≡ coun
 array_len-new count = length-replicate (count * 1) (pos 0) ∙ mul-one count
 
 -- the end of a run tells its outcome, and what was printed is a front of what it prints
-pub end_tells : (fuel : ℕ) (picks : List ℕ) (s : Slice) (old new : Machine) (numbers : List ℤ) (result : Result Bool Put) (o : Outcome) (text : List ℕ) (left : ℕ) → o ≡ rest_of_run fuel picks (behind_calloc text s) (world_of old left []) → RunsOn fuel picks s old new numbers result → Tells (end_of new result) o
-end_tells fuel picks s old new numbers (Ok true) o text left is runs =
-    let e = is ∙ runs text left [] in
+pub end_tells : (fuel : ℕ) (picks : List ℕ) (s : Slice) (old new : Machine) (numbers : List ℤ) (result : Result Bool Put) (o : Outcome) (left : ℕ) → o ≡ rest_of_run fuel picks (behind_calloc s) (world_of old left []) → RunsOn fuel picks s old new numbers result → Tells (end_of new result) o
+end_tells fuel picks s old new numbers (Ok true) o left is runs =
+    let e = is ∙ runs left [] in
     record { ending = ap (λ (p : Outcome). p.ending) e; memory = ap (λ (p : Outcome). p.world.memory) e; cost = ap (λ (p : Outcome). p.world.cost) e }
-end_tells fuel picks s old new numbers (Ok false) o text left is runs = ap (λ (p : Outcome). p.ending) (is ∙ runs text left [])
-end_tells fuel picks s old new numbers (Err Failed) o text left is runs = tt
-end_tells fuel picks s old new numbers (Err NoMemory) o text left is runs = tt
+end_tells fuel picks s old new numbers (Ok false) o left is runs = ap (λ (p : Outcome). p.ending) (is ∙ runs left [])
+end_tells fuel picks s old new numbers (Err Failed) o left is runs = tt
+end_tells fuel picks s old new numbers (Err NoMemory) o left is runs = tt
 
 -- what the outcome printed: these numbers, and none behind them where the machine made all
-pub end_printed : (fuel : ℕ) (picks : List ℕ) (s : Slice) (old new : Machine) (numbers : List ℤ) (result : Result Bool Put) (o : Outcome) (text : List ℕ) (left : ℕ) → o ≡ rest_of_run fuel picks (behind_calloc text s) (world_of old left []) → RunsOn fuel picks s old new numbers result → (more : List ℤ) × (o.world.printed ≡ numbers ++ more) × IfOk result (λ _. o.world.printed ≡ numbers)
-end_printed fuel picks s old new numbers (Ok true) o text left is runs =
-    let e = ap (λ (p : Outcome). p.world.printed) (is ∙ runs text left []) in ([], e ∙ sym (append-nil numbers), e)
-end_printed fuel picks s old new numbers (Ok false) o text left is runs =
-    let e = ap (λ (p : Outcome). p.world.printed) (is ∙ runs text left []) in ([], e ∙ sym (append-nil numbers), e)
-end_printed fuel picks s old new numbers (Err fault) o text left is runs =
-    let r = runs text left [] in (r.0, ap (λ (p : Outcome). p.world.printed) is ∙ r.1, tt)
+pub end_printed : (fuel : ℕ) (picks : List ℕ) (s : Slice) (old new : Machine) (numbers : List ℤ) (result : Result Bool Put) (o : Outcome) (left : ℕ) → o ≡ rest_of_run fuel picks (behind_calloc s) (world_of old left []) → RunsOn fuel picks s old new numbers result → (more : List ℤ) × (o.world.printed ≡ numbers ++ more) × IfOk result (λ _. o.world.printed ≡ numbers)
+end_printed fuel picks s old new numbers (Ok true) o left is runs =
+    let e = ap (λ (p : Outcome). p.world.printed) (is ∙ runs left []) in ([], e ∙ sym (append-nil numbers), e)
+end_printed fuel picks s old new numbers (Ok false) o left is runs =
+    let e = ap (λ (p : Outcome). p.world.printed) (is ∙ runs left []) in ([], e ∙ sym (append-nil numbers), e)
+end_printed fuel picks s old new numbers (Err fault) o left is runs =
+    let r = runs left [] in (r.0, ap (λ (p : Outcome). p.world.printed) is ∙ r.1, tt)
 
 -- so the bytes that were written are a front of its lines, and all of them where no fault came between
 pub written_front : (old new : Option (List ℕ)) (numbers printed : List ℤ) → AppendsPrefix old new (number_lines numbers) → (more : List ℤ) → printed ≡ numbers ++ more → AppendsPrefix old new (number_lines printed)

@@ -1,26 +1,23 @@
 -- Why a command stops before its run.
-use Rattle.std.proofs.Common.{◌≡◌, ℕ, List, [], ◌∷◌, length, None, Some, refl, sym, subst}
+use Rattle.std.proofs.Common.{◌≡◌, ◌≢◌, ℕ, List, [], ◌∷◌, length, None, Some, refl, sym, subst}
 use Rattle.lq_shelf.specs.Shelf.{Holding}
 use Rattle.lq_tree.specs.declared.place.Place.{Place}
-use Rattle.lq_tree.specs.Place.{place_text}
+use Rattle.lq_tree.specs.declared.program.Program.{Program}
 use Rattle.lq_cli.specs.declared.slice.Slice.{Slice}
-use Rattle.lq_cli.specs.declared.slice_fault.SliceFault.{SliceFault}
-use Rattle.lq_cli.specs.declared.slice_fault.SliceFault.TheVariants.{Outside as OutsideSlice, NoMemory as NoSliceMemory}
 use Rattle.lq_cli.specs.declared.answer.Quantity.{Quantity}
 use Rattle.lq_cli.specs.declared.answer.Quantity.TheVariants.{SourceBytes}
 use Rattle.lq_cli.specs.declared.answer.Answer.{Answer}
-use Rattle.lq_cli.specs.declared.answer.Answer.TheVariants.{BadWords, ReadFault, Limit, Outside, BadPickLine, Literal, Trap, Fuel}
+use Rattle.lq_cli.specs.declared.answer.Answer.TheVariants.{BadWords, ReadFault, Limit, Lexical, Annotation, Syntax, Names, Outside, BadPickLine, Literal, Trap, Fuel}
 use Rattle.lq_cli.specs.declared.ready.Stop.{Stop}
 use Rattle.lq_cli.specs.declared.ready.Stop.TheVariants.{Told, NoMemory}
-use Rattle.lq_cli.specs.Lines.{line, read_fault, limit}
+use Rattle.lq_cli.specs.Lines.{read_fault, limit}
 use Rattle.lq_cli.specs.Answer.{quantity_text, allowed_of}
 use Rattle.lq_cli.specs.Command.{Command, Spells}
-use Rattle.lq_cli.specs.Liquid.{Sourced, Picked, Answers, bad_words, source_fault, source_bytes, outside, with_slice, refused}
+use Rattle.lq_cli.specs.Liquid.{Sourced, Picked, Answers, bad_words, source_fault, source_bytes, without_tree, outside, with_slice, refused}
 use Rattle.lq_cli.specs.Literal.{literal_faults, first_of, IsAccepted}
-use Rattle.lq_cli.specs.Slice.{SpellsSlice}
-use Rattle.lq_cli.specs.Source.{place_at}
-use Rattle.lq_cli.specs.Ready.{stop_of_slice, OnTold, Fetches, PicksStop, Stops}
-use Rattle.std.specs.Prelude.{codes, ◌++◌}
+use Rattle.lq_cli.specs.Source.{program}
+use Rattle.lq_cli.specs.Text.{Reads}
+use Rattle.lq_cli.specs.Ready.{TellsText, OnTold, Fetches, PicksStop, Stops}
 
 module _ (held : List ℕ → Holding) (Failed : List ℕ → Type 0) (words : List (List ℕ)) where
   pub words_stop : ((c : Command) → ¬ Spells words c) → Stops held Failed words (Told BadWords)
@@ -32,6 +29,10 @@ module _ (held : List ℕ → Holding) (Failed : List ℕ → Type 0) (words : L
       subst (λ (n : ℕ). Answers held Failed means words 7 (limit (quantity_text quantity) n (allowed_of quantity))) (sym stops.2)
       (subst (λ (q : Quantity). Answers held Failed means words 7 (limit (quantity_text q) (length stops.1) (allowed_of q))) (sym stops.0) (source_bytes c stops.1 asked stops.3 stops.4))
   source_tells c asked BadWords stops = absurd stops
+  source_tells c asked (Lexical at) stops = absurd stops
+  source_tells c asked (Annotation at) stops = absurd stops
+  source_tells c asked (Syntax at) stops = absurd stops
+  source_tells c asked (Names rule at) stops = absurd stops
   source_tells c asked Outside stops = absurd stops
   source_tells c asked (BadPickLine n) stops = absurd stops
   source_tells c asked (Literal at) stops = absurd stops
@@ -43,24 +44,26 @@ module _ (held : List ℕ → Holding) (Failed : List ℕ → Type 0) (words : L
   source_stops c asked (Told answer) stops = source_tells c asked answer stops
 
   module _ (c : Command) (text : List ℕ) (sourced : Sourced held words c text) where
-    pub slice_stops : (fault : SliceFault) → (fault ≡ OutsideSlice → (name : List ℕ) (s : Slice) → ¬ SpellsSlice text name s) → Stops held Failed words (stop_of_slice fault)
-    slice_stops OutsideSlice none = λ means. outside c text sourced (none refl)
-    slice_stops NoSliceMemory none = tt
+    pub text_stops : (stop : Stop) → OnTold stop (TellsText text) → Stops held Failed words stop
+    text_stops NoMemory told = tt
+    text_stops (Told answer) told = λ means. without_tree c text sourced told
 
-    module _ (name : List ℕ) (s : Slice) (slice : SpellsSlice text name s) where
-      pub picks_stop : (found : Holding) → held c.picks ≡ found → (stop : Stop) → PicksStop found Failed c.picks stop → Stops held Failed words stop
-      picks_stop found same NoMemory told = tt
-      picks_stop found same (Told answer) told = λ means. with_slice c text name s sourced slice (told held means c text name s refl same)
+    module _ (tree : Program) (reads : Reads text tree) where
+      pub outside_stops : ((name : List ℕ) (s : Slice) → tree ≢ program name s) → Stops held Failed words (Told Outside)
+      outside_stops none = λ means. outside c text tree sourced reads none
 
-      pub literal_stops : (picks : List ℕ) (byte : ℕ) (at : Place) → Picked held c picks → first_of (literal_faults s) ≡ Some byte → at ≡ place_at text byte → Stops held Failed words (Told (Literal at))
-      literal_stops picks byte at picked first is = λ means.
-          subst (λ (p : Place). Answers held Failed means words 2 (line (codes "refused literal at " ++ place_text p))) (sym is)
-          (with_slice c text name s sourced slice (refused picks byte picked first))
+      module _ (name : List ℕ) (s : Slice) (is : tree ≡ program name s) where
+        pub picks_stop : (found : Holding) → held c.picks ≡ found → (stop : Stop) → PicksStop found Failed c.picks stop → Stops held Failed words stop
+        picks_stop found same NoMemory told = tt
+        picks_stop found same (Told answer) told = λ means. with_slice c text tree name s sourced reads is (told held means c tree s refl same)
+
+        pub literal_stops : (picks : List ℕ) (at : Place) → Picked held c picks → first_of (literal_faults s) ≡ Some at → Stops held Failed words (Told (Literal at))
+        literal_stops picks at picked first = λ means. with_slice c text tree name s sourced reads is (refused picks at picked first)
 
 -- where the check fails nowhere it accepts
-none_first : (bytes : List ℕ) → first_of bytes ≡ None → bytes ≡ []
+none_first : (places : List Place) → first_of places ≡ None → places ≡ []
 none_first [] e = refl
-none_first (byte ∷ bytes) e = absurd cc
+none_first (at ∷ places) e = absurd cc
 
 pub accepted : (s : Slice) → first_of (literal_faults s) ≡ None → IsAccepted s
 accepted s e = none_first (literal_faults s) e

@@ -14,6 +14,7 @@ use Rattle.lq_cli.specs.Answer.{IsLost}
 use Rattle.lq_cli.specs.Liquid.{Ends, done, trapped, spent, Tells, Begins, Means, interleaved, sequentially, Answers, with_slice, ran}
 use Rattle.lq_cli.specs.Ready.{IsReady}
 use Rattle.lq_cli.specs.Run.{ending_of, leaf_of, first_pick, other_picks, then_run, run, run_slice}
+use Rattle.lq_cli.specs.Source.{program}
 use Rattle.lq_cli.specs.Same.{Agree, PicksDoNotMatter}
 use Rattle.lq_cli.specs.Task.{Task, Ended, Due, Fork, Stepped, Moves, Leaves, step}
 
@@ -42,9 +43,9 @@ has_end (suc fuel) picks (Due at action next) w clean =
 has_end (suc fuel) picks (Fork children behind) w clean =
     behind_step (run fuel (other_picks picks)) (has_end fuel (other_picks picks)) (step (Fork children behind) (leaf_of (first_pick picks) (Fork children behind)) w) clean
 
--- the outcome of one text and one list of picks, however they are written
-pub same_outcome : (t text p picks : List ℕ) (fuel words : ℕ) (s : Slice) → t ≡ text → p ≡ picks → run_slice t fuel words p s ≡ run_slice text fuel words picks s
-same_outcome t text p picks fuel words s a b = λ j. run_slice (a j) fuel words (b j) s
+-- the outcome of one list of picks, however it is written
+pub same_outcome : (p picks : List ℕ) (fuel words : ℕ) (s : Slice) → p ≡ picks → run_slice fuel words p s ≡ run_slice fuel words picks s
+same_outcome p picks fuel words s b = λ j. run_slice fuel words (b j) s
 
 -- outcomes that agree have the same answers
 pub agreed : (a b : Outcome) → Agree a b → (status : ℕ) (bytes : List ℕ) → Ends a status bytes → Ends b status bytes
@@ -82,15 +83,15 @@ module _ (o : Outcome) (old : Option (List ℕ)) where
 -- the run of what is ready is an answer to the words
 module _ (held : List ℕ → Holding) (Failed : List ℕ → Type 0) (words : List (List ℕ)) (r : Ready) (ready : IsReady held words r) where
   abbrev outcome : Outcome
-  outcome = run_slice r.text.items r.fuel r.words r.picks.items r.slice
+  outcome = run_slice r.fuel r.words r.picks.items r.slice
 
-  answer_of : (means : Means) (status : ℕ) (bytes : List ℕ) → Ends (means r.text.items ready.array r.slice ready.command r.picks.items) status bytes → Answers held Failed means words status bytes
-  answer_of means status bytes e = with_slice ready.command r.text.items ready.array r.slice ready.sourced ready.slice (ran r.picks.items ready.picked ready.accepted e)
+  answer_of : (means : Means) (status : ℕ) (bytes : List ℕ) → Ends (means (program ready.array r.slice) r.slice ready.command r.picks.items) status bytes → Answers held Failed means words status bytes
+  answer_of means status bytes e = with_slice ready.command ready.text (program ready.array r.slice) ready.array r.slice ready.sourced ready.reads refl (ran r.picks.items ready.picked ready.accepted e)
 
-  by_run : (status : ℕ) (bytes : List ℕ) → Ends outcome status bytes → Ends (interleaved r.text.items ready.array r.slice ready.command r.picks.items) status bytes
+  by_run : (status : ℕ) (bytes : List ℕ) → Ends outcome status bytes → Ends (interleaved (program ready.array r.slice) r.slice ready.command r.picks.items) status bytes
   by_run status bytes e =
-      subst (λ (n : ℕ). Ends (run_slice r.text.items ready.command.fuel n r.picks.items r.slice) status bytes) ready.room
-      (subst (λ (n : ℕ). Ends (run_slice r.text.items n r.words r.picks.items r.slice) status bytes) ready.fuel e)
+      subst (λ (n : ℕ). Ends (run_slice ready.command.fuel n r.picks.items r.slice) status bytes) ready.room
+      (subst (λ (n : ℕ). Ends (run_slice n r.words r.picks.items r.slice) status bytes) ready.fuel e)
 
   pub ready_answers : (old new : Option (List ℕ)) (result : ℕ) → IsLost result ⊎ Tells (Ends outcome) old new result → IsLost result ⊎ Tells (Answers held Failed interleaved words) old new result
   ready_answers old new result told = ⊎_elim inl (λ t. inr (t.0, t.1, answer_of interleaved result t.0 (by_run result t.0 t.2))) told
@@ -105,7 +106,7 @@ module _ (held : List ℕ → Holding) (Failed : List ℕ → Type 0) (words : L
         t.0,
         t.1,
         answer_of sequentially result t.0
-            (agreed (interleaved r.text.items ready.array r.slice ready.command r.picks.items) (sequentially r.text.items ready.array r.slice ready.command r.picks.items)
-            (law r.text.items ready.array r.slice ready.command.fuel ready.command.words r.picks.items ready.accepted).1 result t.0 (by_run result t.0 t.2)),
+            (agreed (interleaved (program ready.array r.slice) r.slice ready.command r.picks.items) (sequentially (program ready.array r.slice) r.slice ready.command r.picks.items)
+            (law ready.array r.slice ready.command.fuel ready.command.words r.picks.items ready.accepted).1 result t.0 (by_run result t.0 t.2)),
       ))
       told

@@ -1,15 +1,12 @@
 pub mod Lines
-pub mod Number
-pub mod Rest
-pub mod Slice
-pub mod SliceFault
-pub mod SliceParser
 pub mod Source
+pub mod Slicing
 pub mod Task
 pub mod Run
 pub mod Literal
 pub mod Same
 pub mod Command
+pub mod Text
 pub mod Liquid
 pub mod Replay
 pub mod Answer

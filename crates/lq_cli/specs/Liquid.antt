@@ -1,6 +1,8 @@
 -- The answers of the program: the status and the bytes that are written, with the cause of each
 -- (docs/COMMANDS.md, "Replay today" and "Statuses").
-use Rattle.std.specs.Prelude.{◌≡◌, ℕ, ◌+◌, ◌<◌, ◌≤◌, pos, List, ◌++◌, length, map, Option, Some, codes, decimal}
+use Rattle.std.specs.Prelude.{◌≡◌, ◌≢◌, ℕ, ◌+◌, ◌<◌, ◌≤◌, pos, List, ◌++◌, length, map, Option, Some, codes, decimal}
+use Rattle.lq_tree.specs.declared.place.Place.{Place}
+use Rattle.lq_tree.specs.declared.program.Program.{Program}
 use Rattle.lq_tree.specs.Place.{place_text}
 use Rattle.lq_text.specs.Numbers.{IsNumbersFile, IsFirstBadLine}
 use Rattle.lq_shelf.specs.Faults.{Rose}
@@ -13,8 +15,8 @@ use Rattle.lq_cli.specs.Command.{Command, Spells}
 use Rattle.lq_cli.specs.Lines.{line, number_lines, trap, read_fault, limit}
 use Rattle.lq_cli.specs.Literal.{literal_faults, first_of, IsAccepted}
 use Rattle.lq_cli.specs.Run.{run_slice}
-use Rattle.lq_cli.specs.Slice.{SpellsSlice}
-use Rattle.lq_cli.specs.Source.{place_at, program}
+use Rattle.lq_cli.specs.Source.{program}
+use Rattle.lq_cli.specs.Text.{Reads, TextAnswers}
 
 abbrev pub most_source_bytes : ℕ
 most_source_bytes = 262144
@@ -32,17 +34,17 @@ pub data Ends (o : Outcome) : ℕ → List ℕ → Type 0 where
       Ends o 1 (number_lines o.world.printed ++ trap t)
   spent : o.ending ≡ Spent → Ends o 8 (number_lines o.world.printed ++ line (codes "out of fuel"))
 
--- what a slice means: its text, the name of its array, the slice, the command and the picks
+-- what a slice means: its tree, the slice, the command and the picks
 abbrev pub Means : Type 0
-Means = (text name : List ℕ) → Slice → Command → (picks : List ℕ) → Outcome
+Means = Program → Slice → Command → (picks : List ℕ) → Outcome
 
 -- the run under the picks
-abbrev pub interleaved : (text name : List ℕ) → Slice → Command → (picks : List ℕ) → Outcome
-interleaved text name s c picks = run_slice text c.fuel c.words picks s
+abbrev pub interleaved : Program → Slice → Command → (picks : List ℕ) → Outcome
+interleaved tree s c picks = run_slice c.fuel c.words picks s
 
--- the sequential execution of the source, to which picks mean nothing
-abbrev pub sequentially : (text name : List ℕ) → Slice → Command → (picks : List ℕ) → Outcome
-sequentially text name s c picks = sequential c.fuel c.words (program text name s)
+-- the sequential execution of the tree, to which picks mean nothing
+abbrev pub sequentially : Program → Slice → Command → (picks : List ℕ) → Outcome
+sequentially tree s c picks = sequential c.fuel c.words tree
 
 -- what the fetches of a call gave, by what is held under each name
 module _ (held : List ℕ → Holding) where
@@ -75,19 +77,19 @@ Lost before after last name = Rose before after × (last ≡ name)
 
 -- the answers, by what is held under each name, by which fetches failed and by what a slice means
 module _ (held : List ℕ → Holding) (Failed : List ℕ → Type 0) (means : Means) where
-  -- the answers where the words are a command and its source is a slice
-  pub data SliceAnswers (c : Command) (text name : List ℕ) (s : Slice) : ℕ → List ℕ → Type 0 where
-    picks_fault : Failed c.picks → SliceAnswers c text name s 9 (read_fault c.picks)
+  -- the answers where the words are a command and the tree of its source is a slice
+  pub data SliceAnswers (c : Command) (tree : Program) (s : Slice) : ℕ → List ℕ → Type 0 where
+    picks_fault : Failed c.picks → SliceAnswers c tree s 9 (read_fault c.picks)
     pick_bytes : (bytes : List ℕ) → Fetched held c.picks most_pick_bytes bytes → most_pick_bytes < length bytes →
-        SliceAnswers c text name s 7 (limit (codes "pick bytes") (length bytes) most_pick_bytes)
+        SliceAnswers c tree s 7 (limit (codes "pick bytes") (length bytes) most_pick_bytes)
     bad_pick_line : (bytes : List ℕ) (number : ℕ) → PickBytes held c bytes → IsFirstBadLine (pos 0) bytes number →
-        SliceAnswers c text name s 6 (line (codes "bad pick line " ++ decimal number))
+        SliceAnswers c tree s 6 (line (codes "bad pick line " ++ decimal number))
     pick_numbers : (bytes picks : List ℕ) → PickBytes held c bytes → IsNumbersFile (pos 0) bytes (map pos picks) → most_pick_numbers < length picks →
-        SliceAnswers c text name s 7 (limit (codes "pick numbers") (length picks) most_pick_numbers)
-    refused : (picks : List ℕ) (byte : ℕ) → Picked held c picks → first_of (literal_faults s) ≡ Some byte →
-        SliceAnswers c text name s 2 (line (codes "refused literal at " ++ place_text (place_at text byte)))
-    ran : (picks : List ℕ) {status : ℕ} {bytes : List ℕ} → Picked held c picks → IsAccepted s → Ends (means text name s c picks) status bytes →
-        SliceAnswers c text name s status bytes
+        SliceAnswers c tree s 7 (limit (codes "pick numbers") (length picks) most_pick_numbers)
+    refused : (picks : List ℕ) (at : Place) → Picked held c picks → first_of (literal_faults s) ≡ Some at →
+        SliceAnswers c tree s 2 (line (codes "refused literal at " ++ place_text at))
+    ran : (picks : List ℕ) {status : ℕ} {bytes : List ℕ} → Picked held c picks → IsAccepted s → Ends (means tree s c picks) status bytes →
+        SliceAnswers c tree s status bytes
 
   -- the answers to the words of a command line
   pub data Answers (words : List (List ℕ)) : ℕ → List ℕ → Type 0 where
@@ -95,10 +97,11 @@ module _ (held : List ℕ → Holding) (Failed : List ℕ → Type 0) (means : M
     source_fault : (c : Command) → Spells words c → Failed c.source → Answers words 9 (read_fault c.source)
     source_bytes : (c : Command) (text : List ℕ) → Spells words c → Fetched held c.source most_source_bytes text → most_source_bytes < length text →
         Answers words 7 (limit (codes "source bytes") (length text) most_source_bytes)
-    outside : (c : Command) (text : List ℕ) → Sourced held words c text → ((name : List ℕ) (s : Slice) → ¬ SpellsSlice text name s) →
+    without_tree : (c : Command) (text : List ℕ) {status : ℕ} {bytes : List ℕ} → Sourced held words c text → TextAnswers text status bytes → Answers words status bytes
+    outside : (c : Command) (text : List ℕ) (tree : Program) → Sourced held words c text → Reads text tree → ((name : List ℕ) (s : Slice) → tree ≢ program name s) →
         Answers words 3 (line (codes "outside the slice"))
-    with_slice : (c : Command) (text name : List ℕ) (s : Slice) {status : ℕ} {bytes : List ℕ} →
-        Sourced held words c text → SpellsSlice text name s → SliceAnswers c text name s status bytes → Answers words status bytes
+    with_slice : (c : Command) (text : List ℕ) (tree : Program) (name : List ℕ) (s : Slice) {status : ℕ} {bytes : List ℕ} →
+        Sourced held words c text → Reads text tree → tree ≡ program name s → SliceAnswers c tree s status bytes → Answers words status bytes
 
 -- a status and the bytes that were written with it are an answer
 abbrev pub Tells : (answers : ℕ → List ℕ → Type 0) → (written now : Option (List ℕ)) → ℕ → Type 0

@@ -1,6 +1,7 @@
 -- The check of literals (docs/CHECKING.md, "The literal check").
 use Rattle.std.specs.Prelude.{◌≡◌, ℕ, Bool, not, ◌||◌, ◌==◌, nat_lt, if◌then◌else◌, List, [], ◌∷◌, ◌++◌, map, filter, Option, None, Some}
 use Rattle.std.specs.List.{list_any}
+use Rattle.lq_tree.specs.declared.place.Place.{Place}
 use Rattle.lq_cli.specs.declared.slice.Store.{Store}
 use Rattle.lq_cli.specs.declared.slice.Step.{Step}
 use Rattle.lq_cli.specs.declared.slice.Step.TheVariants.{Store as StoreStep, Print as PrintStep}
@@ -21,21 +22,21 @@ abbrev pub step_index : Step → ℕ
 step_index (StoreStep s) = s.index
 step_index (PrintStep at index) = index
 
-abbrev pub step_at : Step → ℕ
+abbrev pub step_at : Step → Place
 step_at (StoreStep s) = s.at
 step_at (PrintStep at index) = at
 
-abbrev pub store_at : Store → ℕ
+abbrev pub store_at : Store → Place
 store_at s = s.at
 
--- the first bytes of the stores that fail a test
-abbrev pub failing : (Store → Bool) → List Store → List ℕ
+-- the places of the stores that fail a test
+abbrev pub failing : (Store → Bool) → List Store → List Place
 failing fails stores = map store_at (filter fails stores)
 
--- The first bytes of all statements at which the check fails, in the order of the text: the declaration where the
+-- The places of all statements at which the check fails, in the order of the text: the declaration where the
 -- count is 0, each store and print whose index is not below the count, and each store of the second block that
 -- meets one of the first.
-abbrev pub literal_faults : Slice → List ℕ
+abbrev pub literal_faults : Slice → List Place
 literal_faults s =
     (if s.count == 0 then s.declaration ∷ [] else [])
     ++ failing (store_is_past s.count) s.before
@@ -44,9 +45,9 @@ literal_faults s =
     ++ map step_at (filter (λ t. is_past s.count (step_index t)) s.after)
 
 -- where the check fails first, if it does
-abbrev pub first_of : List ℕ → Option ℕ
+abbrev pub first_of : List Place → Option Place
 first_of [] = None
-first_of (byte ∷ bytes) = Some byte
+first_of (at ∷ places) = Some at
 
 -- the check accepts
 abbrev pub IsAccepted : Slice → Type 0

@@ -15,7 +15,6 @@ use Rattle.lq_cli.specs.declared.slice.Slice.{Slice}
 use Rattle.lq_cli.specs.Task.{Task, Ended, Due}
 use Rattle.lq_cli.specs.Run.{run, stores_then, blocks_then, steps_then}
 use Rattle.lq_shelf.specs.declared.sink.Put.{Put}
-use Rattle.lq_cli.specs.Source.{place_at}
 
 -- the array of a slice is the first block, and its pointer the answer of the `calloc`
 abbrev pub array : ℤ
@@ -64,10 +63,10 @@ abbrev pub after_store : World → Store → World
 after_store w s = record { memory = with_word w.memory (address 1 s.index 0) s.value; left = w.left; cost = w.cost + 1; printed = w.printed }
 
 -- one statement behind the blocks, and then the rest
-abbrev pub step_then : List ℕ → ℤ → Step → Task → Task
-step_then text p (StoreStep s) rest = Due (place_at text s.at) (StoreWord p (pos s.index) 0 s.value) (λ _. rest)
-step_then text p (PrintStep at index) rest =
-    Due (place_at text at) (Load p (pos index) 0) (λ number. Due (place_at text at) (PrintNumber number) (λ _. rest))
+abbrev pub step_then : ℤ → Step → Task → Task
+step_then p (StoreStep s) rest = Due s.at (StoreWord p (pos s.index) 0 s.value) (λ _. rest)
+step_then p (PrintStep at index) rest =
+    Due at (Load p (pos index) 0) (λ number. Due at (PrintNumber number) (λ _. rest))
 
 -- the numbers that a step prints
 abbrev pub printed_by : Blocks → Step → List ℤ
@@ -86,25 +85,25 @@ StepWithin count (PrintStep at index) = index < count
 -- how the steps behind the blocks go on, where these numbers were printed: all of them are made, the fuel is spent, or
 -- the sink broke off, and the run goes on without the machine
 abbrev pub GoesOn : (fuel : ℕ) → (picks : List ℕ) → List Step → Machine → Machine → List ℤ → Result Bool Put → Type 0
-GoesOn fuel picks steps old new numbers (Ok true) = (text : List ℕ) (rest : Task) (left : ℕ) (printed : List ℤ) →
-    rest_of_run fuel picks (steps_then text array steps rest) (world_of old left printed) ≡ rest_of_run fuel picks rest (world_of new left (printed ++ numbers))
-GoesOn fuel picks steps old new numbers (Ok false) = (text : List ℕ) (rest : Task) (left : ℕ) (printed : List ℤ) →
-    rest_of_run fuel picks (steps_then text array steps rest) (world_of old left printed) ≡ spent (world_of new left (printed ++ numbers))
-GoesOn fuel picks steps old new numbers (Err fault) = (text : List ℕ) (rest : Task) (left : ℕ) (printed : List ℤ) →
-    (task : Task) × (w : World) × (w.printed ≡ printed ++ numbers) × (rest_of_run fuel picks (steps_then text array steps rest) (world_of old left printed) ≡ rest_of_run fuel picks task w)
+GoesOn fuel picks steps old new numbers (Ok true) = (rest : Task) (left : ℕ) (printed : List ℤ) →
+    rest_of_run fuel picks (steps_then array steps rest) (world_of old left printed) ≡ rest_of_run fuel picks rest (world_of new left (printed ++ numbers))
+GoesOn fuel picks steps old new numbers (Ok false) = (rest : Task) (left : ℕ) (printed : List ℤ) →
+    rest_of_run fuel picks (steps_then array steps rest) (world_of old left printed) ≡ spent (world_of new left (printed ++ numbers))
+GoesOn fuel picks steps old new numbers (Err fault) = (rest : Task) (left : ℕ) (printed : List ℤ) →
+    (task : Task) × (w : World) × (w.printed ≡ printed ++ numbers) × (rest_of_run fuel picks (steps_then array steps rest) (world_of old left printed) ≡ rest_of_run fuel picks task w)
 
 -- the task behind the `calloc` of a slice
-abbrev pub behind_calloc : List ℕ → Slice → Task
-behind_calloc text s = stores_then text array s.before (blocks_then text array s.left.stores s.right.stores (steps_then text array s.after (Ended None)))
+abbrev pub behind_calloc : Slice → Task
+behind_calloc s = stores_then array s.before (blocks_then array s.left.stores s.right.stores (steps_then array s.after (Ended None)))
 
 -- how the statements of a slice go on behind its `calloc`, where these numbers were printed
 abbrev pub RunsOn : (fuel : ℕ) → (picks : List ℕ) → Slice → Machine → Machine → List ℤ → Result Bool Put → Type 0
-RunsOn fuel picks s old new numbers (Ok true) = (text : List ℕ) (left : ℕ) (printed : List ℤ) →
-    rest_of_run fuel picks (behind_calloc text s) (world_of old left printed) ≡ record { ending = Done; world = world_of new left (printed ++ numbers) }
-RunsOn fuel picks s old new numbers (Ok false) = (text : List ℕ) (left : ℕ) (printed : List ℤ) →
-    rest_of_run fuel picks (behind_calloc text s) (world_of old left printed) ≡ spent (world_of new left (printed ++ numbers))
-RunsOn fuel picks s old new numbers (Err fault) = (text : List ℕ) (left : ℕ) (printed : List ℤ) →
-    (more : List ℤ) × ((rest_of_run fuel picks (behind_calloc text s) (world_of old left printed)).world.printed ≡ printed ++ (numbers ++ more))
+RunsOn fuel picks s old new numbers (Ok true) = (left : ℕ) (printed : List ℤ) →
+    rest_of_run fuel picks (behind_calloc s) (world_of old left printed) ≡ record { ending = Done; world = world_of new left (printed ++ numbers) }
+RunsOn fuel picks s old new numbers (Ok false) = (left : ℕ) (printed : List ℤ) →
+    rest_of_run fuel picks (behind_calloc s) (world_of old left printed) ≡ spent (world_of new left (printed ++ numbers))
+RunsOn fuel picks s old new numbers (Err fault) = (left : ℕ) (printed : List ℤ) →
+    (more : List ℤ) × ((rest_of_run fuel picks (behind_calloc s) (world_of old left printed)).world.printed ≡ printed ++ (numbers ++ more))
 
 -- the end of a run by what its statements answer
 abbrev pub end_of : Machine → Result Bool Put → End

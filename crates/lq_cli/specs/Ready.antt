@@ -1,13 +1,12 @@
 -- What is ready for a run, and why there may be none.
 use Rattle.std.specs.Prelude.{◌≡◌, ℕ, ◌<◌, List, length, ⊤}
+use Rattle.lq_tree.specs.declared.program.Program.{Program}
 use Rattle.lq_shelf.specs.Shelf.{Holding}
 use Rattle.lq_cli.specs.declared.answer.Quantity.{Quantity}
 use Rattle.lq_cli.specs.declared.answer.Answer.{Answer}
-use Rattle.lq_cli.specs.declared.answer.Answer.TheVariants.{ReadFault, Limit, Outside, BadPickLine}
+use Rattle.lq_cli.specs.declared.answer.Answer.TheVariants.{ReadFault, Limit, BadPickLine}
 use Rattle.lq_text.specs.declared.numbers.NumbersFault.{NumbersFault}
 use Rattle.lq_text.specs.declared.numbers.NumbersFault.TheVariants.{BadLine, NoMemory as NoNumbersMemory}
-use Rattle.lq_cli.specs.declared.slice_fault.SliceFault.{SliceFault}
-use Rattle.lq_cli.specs.declared.slice_fault.SliceFault.TheVariants.{Outside as OutsideSlice, NoMemory as NoSliceMemory}
 use Rattle.lq_cli.specs.declared.slice.Slice.{Slice}
 use Rattle.lq_cli.specs.declared.ready.Stop.{Stop}
 use Rattle.lq_cli.specs.declared.ready.Stop.TheVariants.{Told, NoMemory}
@@ -16,13 +15,10 @@ use Rattle.lq_cli.specs.Answer.{allowed_of, status_of, line_of}
 use Rattle.lq_cli.specs.Command.{Command}
 use Rattle.lq_cli.specs.Liquid.{Means, Fetched, Sourced, Picked, SliceAnswers, Answers}
 use Rattle.lq_cli.specs.Literal.{IsAccepted}
-use Rattle.lq_cli.specs.Slice.{SpellsSlice}
+use Rattle.lq_cli.specs.Source.{program}
+use Rattle.lq_cli.specs.Text.{Reads, TextAnswers}
 
--- how the faults of the readers stop a command
-abbrev pub stop_of_slice : SliceFault → Stop
-stop_of_slice OutsideSlice = Told Outside
-stop_of_slice NoSliceMemory = NoMemory
-
+-- how the faults of a reader of numbers stop a command
 abbrev pub stop_of_picks : NumbersFault → Stop
 stop_of_picks (BadLine number) = Told (BadPickLine number)
 stop_of_picks NoNumbersMemory = NoMemory
@@ -44,12 +40,17 @@ Fetches held Failed name quantity (Limit other found) =
     (other ≡ quantity) × (bytes : List ℕ) × (found ≡ length bytes) × Fetched held name (allowed_of quantity) bytes × (allowed_of quantity < length bytes)
 Fetches held Failed name quantity _ = ⊥
 
--- a command is ready: its source is a slice that the check of literals accepts, and its picks are read
+-- an answer to a text that has no tree
+abbrev pub TellsText : List ℕ → Answer → Type 0
+TellsText text answer = TextAnswers text (status_of answer) (line_of answer)
+
+-- a command is ready: the tree of its source is a slice that the check of literals accepts, and its picks are read
 pub record IsReady (held : List ℕ → Holding) (words : List (List ℕ)) (r : Ready) : Type 0 where
   pub command : Command
+  pub text : List ℕ
   pub array : List ℕ
-  pub sourced : Sourced held words command r.text.items
-  pub slice : SpellsSlice r.text.items array r.slice
+  pub sourced : Sourced held words command text
+  pub reads : Reads text (program array r.slice)
   pub picked : Picked held command r.picks.items
   pub accepted : IsAccepted r.slice
   pub fuel : r.fuel ≡ command.fuel
@@ -59,8 +60,8 @@ pub record IsReady (held : List ℕ → Holding) (words : List (List ℕ)) (r : 
 abbrev pub PicksStop : (found : Holding) → (Failed : List ℕ → Type 0) → (name : List ℕ) → Stop → Type 0
 PicksStop found Failed name stop =
     OnTold stop (λ answer.
-    (held : List ℕ → Holding) (means : Means) (c : Command) (text array : List ℕ) (s : Slice) → c.picks ≡ name → held name ≡ found →
-    SliceAnswers held Failed means c text array s (status_of answer) (line_of answer))
+    (held : List ℕ → Holding) (means : Means) (c : Command) (tree : Program) (s : Slice) → c.picks ≡ name → held name ≡ found →
+    SliceAnswers held Failed means c tree s (status_of answer) (line_of answer))
 
 -- how a command stops before its run: by an answer to these words
 abbrev pub Stops : (held : List ℕ → Holding) → (Failed : List ℕ → Type 0) → (words : List (List ℕ)) → Stop → Type 0

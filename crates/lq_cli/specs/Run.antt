@@ -7,7 +7,6 @@ use Rattle.lq_cli.specs.declared.slice.Store.{Store}
 use Rattle.lq_cli.specs.declared.slice.Step.{Step}
 use Rattle.lq_cli.specs.declared.slice.Step.TheVariants.{Store as StoreStep, Print as PrintStep}
 use Rattle.lq_cli.specs.declared.slice.Slice.{Slice}
-use Rattle.lq_cli.specs.Source.{place_at}
 use Rattle.lq_cli.specs.Task.{Task, Ended, Due, Fork, none, more, runnable, forked, Stepped, Moves, Leaves, step}
 
 -- the next pick, and those behind it; behind the last one every pick is 0
@@ -46,24 +45,23 @@ run (suc fuel) picks task w =
     run_or_end task w (then_run (step task (leaf_of (first_pick picks) task) w) (run fuel (other_picks picks)))
 
 -- the task of a slice: its `calloc`, whose answer is the pointer, its stores, its two blocks, its last statements
-module _ (text : List ℕ) where
-  abbrev pub stores_then : ℤ → List Store → Task → Task
-  stores_then p [] rest = rest
-  stores_then p (s ∷ stores) rest = Due (place_at text s.at) (StoreWord p (pos s.index) 0 s.value) (λ _. stores_then p stores rest)
+abbrev pub stores_then : ℤ → List Store → Task → Task
+stores_then p [] rest = rest
+stores_then p (s ∷ stores) rest = Due s.at (StoreWord p (pos s.index) 0 s.value) (λ _. stores_then p stores rest)
 
-  abbrev pub steps_then : ℤ → List Step → Task → Task
-  steps_then p [] rest = rest
-  steps_then p (StoreStep s ∷ steps) rest = Due (place_at text s.at) (StoreWord p (pos s.index) 0 s.value) (λ _. steps_then p steps rest)
-  steps_then p (PrintStep at index ∷ steps) rest =
-      Due (place_at text at) (Load p (pos index) 0) (λ number. Due (place_at text at) (PrintNumber number) (λ _. steps_then p steps rest))
+abbrev pub steps_then : ℤ → List Step → Task → Task
+steps_then p [] rest = rest
+steps_then p (StoreStep s ∷ steps) rest = Due s.at (StoreWord p (pos s.index) 0 s.value) (λ _. steps_then p steps rest)
+steps_then p (PrintStep at index ∷ steps) rest =
+    Due at (Load p (pos index) 0) (λ number. Due at (PrintNumber number) (λ _. steps_then p steps rest))
 
-  abbrev pub blocks_then : ℤ → (left right : List Store) → Task → Task
-  blocks_then p left right rest = forked (more (stores_then p left (Ended None)) (more (stores_then p right (Ended None)) none)) rest
+abbrev pub blocks_then : ℤ → (left right : List Store) → Task → Task
+blocks_then p left right rest = forked (more (stores_then p left (Ended None)) (more (stores_then p right (Ended None)) none)) rest
 
-  abbrev pub task_of : Slice → Task
-  task_of s =
-      Due (place_at text s.declaration) (Allocate (pos s.count) 1) (λ p. stores_then p s.before (blocks_then p s.left.stores s.right.stores (steps_then p s.after (Ended None))))
+abbrev pub task_of : Slice → Task
+task_of s =
+    Due s.declaration (Allocate (pos s.count) 1) (λ p. stores_then p s.before (blocks_then p s.left.stores s.right.stores (steps_then p s.after (Ended None))))
 
-  -- the run of a slice under a list of picks
-  abbrev pub run_slice : (fuel words : ℕ) → (picks : List ℕ) → Slice → Outcome
-  run_slice fuel words picks s = run fuel picks (task_of s) (start words)
+-- the run of a slice under a list of picks
+abbrev pub run_slice : (fuel words : ℕ) → (picks : List ℕ) → Slice → Outcome
+run_slice fuel words picks s = run fuel picks (task_of s) (start words)

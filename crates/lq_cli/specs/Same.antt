@@ -19,7 +19,7 @@ pub record Agree (a b : Outcome) : Type 0 where
 -- list of picks, with every fuel and every number of words.
 abbrev pub PicksDoNotMatter : Type 0
 PicksDoNotMatter =
-    (text name : List ℕ) (s : Slice) (fuel words : ℕ) (picks : List ℕ) →
+    (name : List ℕ) (s : Slice) (fuel words : ℕ) (picks : List ℕ) →
     IsAccepted s →
-    ((at : Place) → (run_slice text fuel words picks s).ending ≢ Strayed at)
-    × Agree (run_slice text fuel words picks s) (sequential fuel words (program text name s))
+    ((at : Place) → (run_slice fuel words picks s).ending ≢ Strayed at)
+    × Agree (run_slice fuel words picks s) (sequential fuel words (program name s))

@@ -19,11 +19,41 @@ pub enum Quantity {
     SourceBytes,
     PickBytes,
     PickNumbers,
+    /// Brackets that are open at once.
+    Brackets,
+    /// Tokens in a row that are none of `;`, `{` and `}`.
+    Stretch,
+    Functions,
+    Structs,
+    /// Fields of one struct.
+    Fields,
+    /// Locals of one function that are in scope at once, its parameters among them.
+    Locals,
+    /// Branches of one `cobegin`.
+    Branches,
+    /// Conditions of one `if`.
+    Arms,
 }
 
 impl Quantity {
     ghost use Rattle.std.specs.Prelude.{◌≡◌};
-    ghost use Rattle.lq_cli.specs.Answer.{allowed_of};
+    ghost use Rattle.lq_cli.specs.Answer.{allowed_of, quantity_numbered};
+
+    /// The quantity with this number in the table of limits, of those that are counted in a source.
+    pub fn numbered(which: u32) -> Quantity
+        ensures { result ≡ quantity_numbered which }
+    {
+        match which {
+            6 => Quantity::Brackets,
+            7 => Quantity::Stretch,
+            8 => Quantity::Functions,
+            11 => Quantity::Structs,
+            12 => Quantity::Fields,
+            13 => Quantity::Locals,
+            14 => Quantity::Branches,
+            _ => Quantity::Arms,
+        }
+    }
 
     /// The largest count that is allowed.
     pub fn allowed(self) -> usize
@@ -33,6 +63,12 @@ impl Quantity {
             Quantity::SourceBytes => 262_144,
             Quantity::PickBytes => 33_554_432,
             Quantity::PickNumbers => 1_048_576,
+            Quantity::Brackets => 64,
+            Quantity::Stretch => 512,
+            Quantity::Functions => 256,
+            Quantity::Structs | Quantity::Arms => 64,
+            Quantity::Fields | Quantity::Branches => 16,
+            Quantity::Locals => 32,
         }
     }
 }
@@ -48,6 +84,14 @@ impl fmt::Display for Quantity {
             Quantity::SourceBytes => write!(f, "source bytes"),
             Quantity::PickBytes => write!(f, "pick bytes"),
             Quantity::PickNumbers => write!(f, "pick numbers"),
+            Quantity::Brackets => write!(f, "brackets"),
+            Quantity::Stretch => write!(f, "stretch"),
+            Quantity::Functions => write!(f, "functions"),
+            Quantity::Structs => write!(f, "structs"),
+            Quantity::Fields => write!(f, "fields"),
+            Quantity::Locals => write!(f, "locals"),
+            Quantity::Branches => write!(f, "branches"),
+            Quantity::Arms => write!(f, "arms"),
         }
     }
 }
@@ -60,6 +104,14 @@ pub enum Answer<'a> {
     ReadFault(&'a str),
     /// More of a quantity was found than is allowed.
     Limit(Quantity, usize),
+    /// Where the source has no tokens.
+    Lexical(Place),
+    /// The first word of an annotation.
+    Annotation(Place),
+    /// Where no tree can be spelled any more.
+    Syntax(Place),
+    /// The name rule that is broken first, and where.
+    Names(u8, Place),
     /// The source is not in the slice.
     Outside,
     /// The number, from 1, of the first bad line.
@@ -85,6 +137,10 @@ impl fmt::Display for Answer<'_> {
             Answer::Limit(quantity, found) => {
                 writeln!(f, "limit {quantity} {found} {}", quantity.allowed())
             }
+            Answer::Lexical(at) => writeln!(f, "lexical fault at {at}"),
+            Answer::Annotation(at) => writeln!(f, "annotation at {at}"),
+            Answer::Syntax(at) => writeln!(f, "syntax fault near {at}"),
+            Answer::Names(rule, at) => writeln!(f, "names N{rule} at {at}"),
             Answer::Outside => writeln!(f, "outside the slice"),
             Answer::BadPickLine(line) => writeln!(f, "bad pick line {line}"),
             Answer::Literal(at) => writeln!(f, "refused literal at {at}"),
@@ -106,7 +162,8 @@ impl Answer<'_> {
             Answer::BadWords => 12,
             Answer::ReadFault(_) => 9,
             Answer::Limit(..) => 7,
-            Answer::Outside => 3,
+            Answer::Lexical(_) | Answer::Syntax(_) | Answer::Outside => 3,
+            Answer::Annotation(_) | Answer::Names(..) => 4,
             Answer::BadPickLine(_) => 6,
             Answer::Literal(_) => 2,
             Answer::Trap(..) => 1,

@@ -1,8 +1,8 @@
-ghost use Rattle.std.specs.Prelude.{◌≡◌, ◌≢◌, ◌⊎◌, ℕ, ◌≤◌, length, List, map, string_bytes};
+ghost use Rattle.std.specs.Prelude.{◌≡◌, ◌≢◌, ◌⊎◌, ℕ, List, map, string_bytes};
 ghost use Rattle.lq_shelf.specs.Faults.{Rose};
 ghost use Rattle.lq_cli.specs.Answer.{IsLost};
 ghost use Rattle.lq_cli.specs.Literal.{IsAccepted};
-ghost use Rattle.lq_cli.specs.Liquid.{most_source_bytes, Answers, Ends, Lost, Tells, Begins, interleaved, sequentially};
+ghost use Rattle.lq_cli.specs.Liquid.{Answers, Ends, Lost, Tells, Begins, interleaved, sequentially};
 ghost use Rattle.lq_cli.specs.Run.{run_slice};
 
 use crate::answer::{Answer, NO_MEMORY, SINK_FAULT};
@@ -16,10 +16,9 @@ use std::alloc::Global;
 
 // Runs what is ready, and tells its end.
 fn run_ready<K: Sink>(alloc: Global, ready: &Ready, out: &mut K) -> u8
-    requires accepted { IsAccepted ready.now.slice }
-    requires short { length ready.now.text.items ≤ most_source_bytes }
-    ensures answers { IsLost result ⊎ Tells (Ends (run_slice ready.now.text.items ready.now.fuel ready.now.words ready.now.picks.items ready.now.slice)) (K.written out.old) (K.written out.new) result }
-    ensures prefix { Begins (Ends (run_slice ready.now.text.items ready.now.fuel ready.now.words ready.now.picks.items ready.now.slice)) (K.written out.old) (K.written out.new) }
+    requires { IsAccepted ready.now.slice }
+    ensures answers { IsLost result ⊎ Tells (Ends (run_slice ready.now.fuel ready.now.words ready.now.picks.items ready.now.slice)) (K.written out.old) (K.written out.new) result }
+    ensures prefix { Begins (Ends (run_slice ready.now.fuel ready.now.words ready.now.picks.items ready.now.slice)) (K.written out.old) (K.written out.new) }
     ensures sink_fault { result ≡ 10 → Rose (K.faults out.old) (K.faults out.new) }
     ensures no_sink_fault { result ≢ 10 → K.faults out.new ≡ K.faults out.old }
     ensures no_read_fault { result ≢ 9 }
@@ -30,14 +29,7 @@ fn run_ready<K: Sink>(alloc: Global, ready: &Ready, out: &mut K) -> u8
         fuel: ready.fuel,
         picks: &ready.picks,
     };
-    match run(
-        alloc,
-        &ready.text,
-        &ready.slice,
-        &schedule,
-        ready.words,
-        out,
-    ) {
+    match run(alloc, &ready.slice, &schedule, ready.words, out) {
         End::Done { .. } => 0,
         End::Trap { kind, at, .. } => Answer::Trap(kind, at).tell(alloc, out),
         End::Fuel => Answer::Fuel.tell(alloc, out),

@@ -6,16 +6,14 @@ mod command;
 mod entry;
 mod literal;
 mod machine;
-mod number;
 mod ready;
-mod rest;
 mod run;
 mod same;
 mod slice;
-mod slice_fault;
-mod slice_parser;
+mod slicing;
 #[cfg(test)]
 mod tests;
+mod text;
 
 pub use entry::liquid;
 pub use same::picks_do_not_matter;

@@ -3,9 +3,10 @@ ghost use Rattle.std.specs.List.{list_any};
 ghost use Rattle.lq_cli.specs.Literal.{first_of, failing, store_is_past, is_past, meets, step_at, step_index, literal_faults};
 
 use crate::slice::{Slice, Step, Store};
+use lq_tree::Place;
 
 // The first store whose index is not below the count.
-fn past_store(count: u64, stores: &[Store]) -> Option<usize>
+fn past_store(count: u64, stores: &[Store]) -> Option<Place>
     ensures { result ≡ first_of (failing (store_is_past count) stores.now) }
 {
     for store in stores {
@@ -24,7 +25,7 @@ fn is_stored(stores: &[Store], index: u64) -> bool
 }
 
 // The first store of the second block whose index is not below the count, or is stored to in the first block.
-fn past_or_met(count: u64, left: &[Store], right: &[Store]) -> Option<usize>
+fn past_or_met(count: u64, left: &[Store], right: &[Store]) -> Option<Place>
     ensures { result ≡ first_of (failing (λ t. store_is_past count t || meets left.now t) right.now) }
 {
     for store in right {
@@ -36,7 +37,7 @@ fn past_or_met(count: u64, left: &[Store], right: &[Store]) -> Option<usize>
 }
 
 // The first statement behind the blocks whose index is not below the count.
-fn past_step(count: u64, steps: &[Step]) -> Option<usize>
+fn past_step(count: u64, steps: &[Step]) -> Option<Place>
     ensures { result ≡ first_of (map step_at (filter (λ t. is_past count (step_index t)) steps.now)) }
 {
     for step in steps {
@@ -51,9 +52,9 @@ fn past_step(count: u64, steps: &[Step]) -> Option<usize>
     None
 }
 
-/// The first byte of the first statement, in the order of the text, at which the check of literals fails
+/// The place of the first statement, in the order of the text, at which the check of literals fails
 /// (docs/CHECKING.md, "The literal check").
-pub fn literal_fault(slice: &Slice) -> Option<usize>
+pub fn literal_fault(slice: &Slice) -> Option<Place>
     ensures { result ≡ first_of (literal_faults slice.now) }
 {
     if slice.count == 0 {

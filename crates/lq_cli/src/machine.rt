@@ -109,11 +109,11 @@ impl Machine {
         ensures array { IsArray self.new.memory }
         ensures length { array_len self.new.memory ≡ array_len self.old.memory }
         ensures fuel { self.new.cost ≤ schedule.now.fuel }
-        ensures done { OnTrue result ((text : List ℕ) (rest : Task) (left : ℕ) (printed : List ℤ) →
-            rest_of_run schedule.now.fuel schedule.now.picks.now (stores_then text array stores.now rest) (world_of self.old left printed)
+        ensures done { OnTrue result ((rest : Task) (left : ℕ) (printed : List ℤ) →
+            rest_of_run schedule.now.fuel schedule.now.picks.now (stores_then array stores.now rest) (world_of self.old left printed)
             ≡ rest_of_run schedule.now.fuel schedule.now.picks.now rest (world_of self.new left printed)) }
-        ensures spent { OnFalse result ((text : List ℕ) (rest : Task) (left : ℕ) (printed : List ℤ) →
-            rest_of_run schedule.now.fuel schedule.now.picks.now (stores_then text array stores.now rest) (world_of self.old left printed)
+        ensures spent { OnFalse result ((rest : Task) (left : ℕ) (printed : List ℤ) →
+            rest_of_run schedule.now.fuel schedule.now.picks.now (stores_then array stores.now rest) (world_of self.old left printed)
             ≡ spent (world_of self.new left printed)) }
     {
         for store in stores {
@@ -135,11 +135,11 @@ impl Machine {
         ensures array { IsArray self.new.memory }
         ensures length { array_len self.new.memory ≡ array_len self.old.memory }
         ensures fuel { self.new.cost ≤ schedule.now.fuel }
-        ensures done { OnTrue result ((text : List ℕ) (rest : Task) (words : ℕ) (printed : List ℤ) →
-            rest_of_run schedule.now.fuel schedule.now.picks.now (blocks_then text array left.now right.now rest) (world_of self.old words printed)
+        ensures done { OnTrue result ((rest : Task) (words : ℕ) (printed : List ℤ) →
+            rest_of_run schedule.now.fuel schedule.now.picks.now (blocks_then array left.now right.now rest) (world_of self.old words printed)
             ≡ rest_of_run schedule.now.fuel schedule.now.picks.now rest (world_of self.new words printed)) }
-        ensures spent { OnFalse result ((text : List ℕ) (rest : Task) (words : ℕ) (printed : List ℤ) →
-            rest_of_run schedule.now.fuel schedule.now.picks.now (blocks_then text array left.now right.now rest) (world_of self.old words printed)
+        ensures spent { OnFalse result ((rest : Task) (words : ℕ) (printed : List ℤ) →
+            rest_of_run schedule.now.fuel schedule.now.picks.now (blocks_then array left.now right.now rest) (world_of self.old words printed)
             ≡ spent (world_of self.new words printed)) }
     {
         let mut left_rest = left;
@@ -214,14 +214,14 @@ impl Machine {
         ensures prefix { AppendsPrefix (K.written out.old) (K.written out.new) (number_lines (printed_by self.old.memory step.now)) }
         ensures failed { IsErrOf result Put.Failed → Rose (K.faults out.old) (K.faults out.new) }
         ensures other { (IsErrOf result Put.Failed → ⊥) → K.faults out.new ≡ K.faults out.old }
-        ensures done { IfOk result (λ lasted. OnTrue lasted ((text : List ℕ) (rest : Task) (left : ℕ) (printed : List ℤ) →
-            rest_of_run schedule.now.fuel schedule.now.picks.now (step_then text array step.now rest) (world_of self.old left printed)
+        ensures done { IfOk result (λ lasted. OnTrue lasted ((rest : Task) (left : ℕ) (printed : List ℤ) →
+            rest_of_run schedule.now.fuel schedule.now.picks.now (step_then array step.now rest) (world_of self.old left printed)
             ≡ rest_of_run schedule.now.fuel schedule.now.picks.now rest (world_of self.new left (printed ++ printed_by self.old.memory step.now)))) }
-        ensures spent { IfOk result (λ lasted. OnFalse lasted ((text : List ℕ) (rest : Task) (left : ℕ) (printed : List ℤ) →
-            rest_of_run schedule.now.fuel schedule.now.picks.now (step_then text array step.now rest) (world_of self.old left printed)
+        ensures spent { IfOk result (λ lasted. OnFalse lasted ((rest : Task) (left : ℕ) (printed : List ℤ) →
+            rest_of_run schedule.now.fuel schedule.now.picks.now (step_then array step.now rest) (world_of self.old left printed)
             ≡ spent (world_of self.new left printed))) }
-        ensures broken { OnErr result ((text : List ℕ) (rest : Task) (left : ℕ) (printed : List ℤ) →
-            rest_of_run schedule.now.fuel schedule.now.picks.now (step_then text array step.now rest) (world_of self.old left printed)
+        ensures broken { OnErr result ((rest : Task) (left : ℕ) (printed : List ℤ) →
+            rest_of_run schedule.now.fuel schedule.now.picks.now (step_then array step.now rest) (world_of self.old left printed)
             ≡ rest_of_run schedule.now.fuel schedule.now.picks.now rest (after_print self.old left printed (printed_by self.old.memory step.now))) }
     {
         match step {

@@ -8,10 +8,9 @@ ghost use Rattle.lq_cli.specs.Ready.{OnTold, OnOther, Fetches, PicksStop, Stops,
 use crate::answer::{Answer, Quantity};
 use crate::command::read_command;
 use crate::literal::literal_fault;
-use crate::run::place;
 use crate::slice::Slice;
-use crate::slice_fault::SliceFault;
-use crate::slice_parser::read_slice;
+use crate::slicing::slice_of;
+use crate::text::read_tree;
 use lq_shelf::{Fetch, Shelf};
 use lq_text::{NumbersFault, read_numbers_from};
 use std::alloc::{AllocError, Global};
@@ -19,8 +18,6 @@ use std::alloc::{AllocError, Global};
 /// What a run needs.
 #[derive(Drop)]
 pub struct Ready {
-    /// The source.
-    pub text: Vec<u8>,
     pub slice: Slice,
     pub picks: Vec<u64>,
     pub fuel: u64,
@@ -44,20 +41,6 @@ impl From<AllocError> for Stop<'_> {
 
     fn from(_: AllocError) -> Self {
         Stop::NoMemory
-    }
-}
-
-impl From<SliceFault> for Stop<'_> {
-    ghost use Rattle.std.specs.Prelude.{◌≡◌};
-    ghost use Rattle.lq_cli.specs.Ready.{stop_of_slice};
-
-    ghost from_gives = { λ fault stop. stop ≡ stop_of_slice fault };
-
-    fn from(fault: SliceFault) -> Self {
-        match fault {
-            SliceFault::Outside => Stop::Told(Answer::Outside),
-            SliceFault::NoMemory => Stop::NoMemory,
-        }
     }
 }
 
@@ -132,7 +115,7 @@ fn fetch_picks<'a, H: Shelf>(
 }
 
 /// What the words of a command line ask to run, or why there is no run.
-#[tactic(auto, using(crate::proofs::Stopped::words_stop, crate::proofs::Stopped::source_stops, crate::proofs::Stopped::slice_stops))]
+#[tactic(auto, using(crate::proofs::Stopped::words_stop, crate::proofs::Stopped::source_stops, crate::proofs::Stopped::text_stops))]
 pub fn prepare<'a, H: Shelf>(
     alloc: Global,
     words: &'a [String],
@@ -146,13 +129,15 @@ pub fn prepare<'a, H: Shelf>(
 {
     let replay = read_command(words).ok_or(Stop::Told(Answer::BadWords))?;
     let text = fetch(shelf, replay.source, Quantity::SourceBytes)?;
-    let slice = read_slice(alloc, &text)?;
+    let tree = read_tree(alloc, &text)?;
+    let Some(slice) = slice_of(alloc, &tree)? else {
+        return Err(Stop::Told(Answer::Outside));
+    };
     let picks = fetch_picks(alloc, shelf, replay.picks)?;
     if let Some(at) = literal_fault(&slice) {
-        return Err(Stop::Told(Answer::Literal(place(&text, at))));
+        return Err(Stop::Told(Answer::Literal(at)));
     }
     Ok(Ready {
-        text,
         slice,
         picks,
         fuel: replay.fuel,

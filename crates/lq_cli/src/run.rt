@@ -3,7 +3,6 @@ ghost use Rattle.lq_shelf.specs.Faults.{Rose};
 ghost use Rattle.lq_shelf.specs.Sink.{Appends, AppendsPrefix};
 ghost use Rattle.lq_meaning.specs.Memory.{with_block};
 ghost use Rattle.lq_meaning.specs.End.{Tells, IsOfRun, IsSinkFault};
-ghost use Rattle.lq_cli.specs.Source.{place_at};
 ghost use Rattle.lq_cli.specs.Literal.{IsAccepted};
 ghost use Rattle.lq_cli.specs.Run.{run_slice};
 ghost use Rattle.lq_cli.specs.Machine.{end_of};
@@ -13,16 +12,8 @@ use crate::machine::{Machine, Schedule};
 use crate::slice::Slice;
 use lq_meaning::{End, Memory};
 use lq_shelf::{Put, Sink};
-use lq_tree::{Place, TrapKind, place_of};
+use lq_tree::TrapKind;
 use std::alloc::{AllocError, Global};
-
-/// The place of a byte of a text; a byte behind its end has the place of its end.
-pub fn place(text: &[u8], at: usize) -> Place
-    requires { length text.now < 2 ^ 32 - 1 }
-    ensures { result ≡ place_at text.now at }
-{
-    place_of(text, at.min(text.len()))
-}
 
 // A memory with one block of so many words, all 0.
 fn array_of(alloc: Global, count: u32) -> Result<Memory, AllocError>
@@ -37,19 +28,17 @@ fn array_of(alloc: Global, count: u32) -> Result<Memory, AllocError>
 /// numbers.
 pub fn run<K: Sink>(
     alloc: Global,
-    text: &[u8],
     slice: &Slice,
     schedule: &Schedule,
     words: u32,
     out: &mut K,
 ) -> End
-    requires accepted { IsAccepted slice.now }
-    requires short { length text.now < 2 ^ 32 - 1 }
-    ensures tells { Tells result (run_slice text.now schedule.now.fuel words schedule.now.picks.now slice.now) }
+    requires { IsAccepted slice.now }
+    ensures tells { Tells result (run_slice schedule.now.fuel words schedule.now.picks.now slice.now) }
     ensures all { IsOfRun result → Appends (K.written out.old) (K.written out.new)
-        (number_lines (run_slice text.now schedule.now.fuel words schedule.now.picks.now slice.now).world.printed) }
+        (number_lines (run_slice schedule.now.fuel words schedule.now.picks.now slice.now).world.printed) }
     ensures prefix { AppendsPrefix (K.written out.old) (K.written out.new)
-        (number_lines (run_slice text.now schedule.now.fuel words schedule.now.picks.now slice.now).world.printed) }
+        (number_lines (run_slice schedule.now.fuel words schedule.now.picks.now slice.now).world.printed) }
     ensures failed { IsSinkFault result → Rose (K.faults out.old) (K.faults out.new) }
     ensures other { (IsSinkFault result → ⊥) → K.faults out.new ≡ K.faults out.old }
 {
@@ -59,7 +48,7 @@ pub fn run<K: Sink>(
     if slice.count > u64::from(words) {
         return End::Trap {
             kind: TrapKind::Words,
-            at: place(text, slice.declaration),
+            at: slice.declaration,
             memory: Memory::new(alloc),
             cost: 1,
         };

@@ -3,6 +3,8 @@ use lq_shelf::{MemShelf, MemSink, OpenGate};
 use std::alloc::{AllocError, Global};
 use std::test::Fail;
 
+mod names;
+
 const TWO_STORES: &str =
     "int main(void) {\n  int *a = calloc(2, sizeof(int));\n  cobegin {\n    { a[0] = 1; }\n    { a[1] = 2; }\n  }\n  print(a[0]);\n  print(a[1]);\n  return 0;\n}\n";
 
@@ -14,6 +16,15 @@ const PAST_END: &str =
 
 const NO_LITERAL: &str =
     "int main(void) {\n  int *a = calloc(2, sizeof(int));\n  cobegin {\n    { a[0] = 1; }\n    { a[i] = 2; }\n  }\n  print(a[0]);\n  print(a[1]);\n  return 0;\n}\n";
+
+const ANNOTATED: &str =
+    "int main(void) {\n  int *a = calloc(2, sizeof(int));\n  cobegin {\n    { commutative { a[0] = 1; } }\n    { a[1] = 2; }\n  }\n  return 0;\n}\n";
+
+const NO_STORE: &str =
+    "int main(void) {\n  int *a = calloc(2, sizeof(int));\n  cobegin {\n    { a[0] + 1; }\n    { a[1] = 2; }\n  }\n  return 0;\n}\n";
+
+const UNCLOSED: &str =
+    "int main(void) {\n  int *a = calloc(2, sizeof(int));\n  cobegin {\n    { a[0] = 1; }\n    { a[1] = 2; }\n  }\n  print(a[0]);\n  print(a[1]);\n  return 0;\n";
 
 // A replay of a source, and the answer that is due.
 #[derive(Clone, Copy)]
@@ -47,16 +58,13 @@ fn replayed(
 // A shelf with a source and picks, of whose fetches these fail.
 fn shelf(
     alloc: Global,
-    source: &str,
+    source: &[u8],
     picks: &str,
     fails: Vec<u64>,
 ) -> Result<MemShelf, AllocError> {
     let mut files = Vec::new(alloc);
-    for (name, text) in [("s.c", source), ("s.picks", picks)] {
-        files.push((
-            String::from_str(alloc, name)?,
-            text.as_bytes().to_vec(alloc)?,
-        ))?;
+    for (name, text) in [("s.c", source), ("s.picks", picks.as_bytes())] {
+        files.push((String::from_str(alloc, name)?, text.to_vec(alloc)?))?;
     }
     Ok(MemShelf::new(alloc, files, fails))
 }
@@ -81,14 +89,33 @@ fn replays_by_the_table(rt: HostRuntime) -> Result<(), Fail> {
         replayed(TWO_STORES, "", "7", "1", 1, "trap words at 2:3\n"),
         replayed(SAME_ELEMENT, "", "7", "100", 2, "refused literal at 5:7\n"),
         replayed(PAST_END, "", "7", "100", 2, "refused literal at 5:7\n"),
-        replayed(NO_LITERAL, "", "7", "100", 3, "outside the slice\n"),
+        replayed(NO_LITERAL, "", "7", "100", 4, "names N3 at 5:7\n"),
+        replayed(
+            "int main(void) { return 0 $ 0; }",
+            "",
+            "7",
+            "100",
+            3,
+            "lexical fault at 1:27\n",
+        ),
+        replayed(ANNOTATED, "", "7", "100", 4, "annotation at 4:7\n"),
+        replayed(UNCLOSED, "", "7", "100", 3, "syntax fault near 10:1\n"),
+        replayed(NO_STORE, "", "7", "100", 3, "syntax fault near 4:12\n"),
+        replayed(
+            "int main(void) { return 0; }",
+            "",
+            "7",
+            "100",
+            3,
+            "outside the slice\n",
+        ),
         replayed(TWO_STORES, "0\n-1\n", "7", "100", 6, "bad pick line 2\n"),
         replayed(TWO_STORES, "", "0", "100", 12, "bad words\n"),
         replayed(TWO_STORES, "", "4194305", "100", 12, "bad words\n"),
         replayed(TWO_STORES, "", "7", "1048577", 12, "bad words\n"),
     ];
     for case in cases {
-        let mut shelf = shelf(alloc, case.source, case.picks, Vec::new(alloc))?;
+        let mut shelf = shelf(alloc, case.source.as_bytes(), case.picks, Vec::new(alloc))?;
         let mut out = MemSink::new(alloc, Vec::new(alloc));
         let words = replay(alloc, case.fuel, case.words)?;
         let status = liquid(alloc, &words, &mut shelf, &mut out, &OpenGate);
@@ -103,13 +130,13 @@ fn tells_faults_of_the_outside(rt: HostRuntime) -> Result<(), Fail> {
     let alloc = rt.alloc();
     let words = replay(alloc, "7", "100")?;
     for (call, text) in [(1, "read fault s.c\n"), (2, "read fault s.picks\n")] {
-        let mut shelf = shelf(alloc, TWO_STORES, "", vec![in alloc; call]?)?;
+        let mut shelf = shelf(alloc, TWO_STORES.as_bytes(), "", vec![in alloc; call]?)?;
         let mut out = MemSink::new(alloc, Vec::new(alloc));
         let status = liquid(alloc, &words, &mut shelf, &mut out, &OpenGate);
         assert_eq!(rt; status, 9);
         assert_eq!(rt; out.written(), text.as_bytes());
     }
-    let mut shelf = shelf(alloc, TWO_STORES, "", Vec::new(alloc))?;
+    let mut shelf = shelf(alloc, TWO_STORES.as_bytes(), "", Vec::new(alloc))?;
     let mut out = MemSink::new(alloc, vec![in alloc; (2, 1)]?);
     let status = liquid(alloc, &words, &mut shelf, &mut out, &OpenGate);
     assert_eq!(rt; status, 10);

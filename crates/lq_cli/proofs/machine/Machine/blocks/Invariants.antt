@@ -13,9 +13,9 @@ invariant-loop-left_rest l = record {
   within : l.self.cost ≤ l.schedule.fuel;
   within_left : All (λ s. s.index < array_len l.fn.self.memory) l.left_rest;
   within_right : All (λ s. s.index < array_len l.fn.self.memory) l.right_rest;
-  goes_on : (text : List ℕ) (rest : Task) (words : ℕ) (printed : List ℤ) →
-      rest_of_run l.schedule.fuel l.schedule.picks.now (blocks_then text array l.left l.right rest) (world_of l.fn.self words printed)
-      ≡ rest_of_run l.schedule.fuel l.schedule.picks.now (blocks_then text array l.left_rest l.right_rest rest) (world_of l.self words printed);
+  goes_on : (rest : Task) (words : ℕ) (printed : List ℤ) →
+      rest_of_run l.schedule.fuel l.schedule.picks.now (blocks_then array l.left l.right rest) (world_of l.fn.self words printed)
+      ≡ rest_of_run l.schedule.fuel l.schedule.picks.now (blocks_then array l.left_rest l.right_rest rest) (world_of l.self words printed);
 }
 
 abbrev pub decreases-loop-left_rest : goal.decreases-loop-left_rest

@@ -25,9 +25,9 @@ returns-then-not-stores-clause-prints g c =
       Appends-nil (w c.args.out.now),
       AppendsPrefix-none (w c.args.out.now) (number_lines []),
       spent_runs_on c.args.schedule.now.fuel c.args.schedule.now.picks.now s c.args.self.now c.stores.new.self
-          (λ text left printed.
-          ap (λ (t : Task). rest_of_run c.args.schedule.now.fuel c.args.schedule.now.picks.now t (world_of c.args.self.now left printed)) (stores_first text s c.as_slice-before.result.now c.as_slice-before.ensures)
-          ∙ ends text (blocks_then text array s.left.stores s.right.stores (steps_then text array s.after (Ended None))) left printed),
+          (λ left printed.
+          ap (λ (t : Task). rest_of_run c.args.schedule.now.fuel c.args.schedule.now.picks.now t (world_of c.args.self.now left printed)) (stores_first s c.as_slice-before.result.now c.as_slice-before.ensures)
+          ∙ ends (blocks_then array s.left.stores s.right.stores (steps_then array s.after (Ended None))) left printed),
     )
 
 pub blocks-requires-clause-within_left : goal.blocks-requires-clause-within_left
@@ -50,11 +50,11 @@ returns-then-not-blocks-clause-prints g c =
       Appends-nil (w c.args.out.now),
       AppendsPrefix-none (w c.args.out.now) (number_lines []),
       spent_runs_on c.args.schedule.now.fuel c.args.schedule.now.picks.now s c.args.self.now c.blocks-2.new.self
-          (λ text left printed.
-          ap (λ (t : Task). rest_of_run c.args.schedule.now.fuel c.args.schedule.now.picks.now t (world_of c.args.self.now left printed)) (stores_first text s c.as_slice-before.result.now c.as_slice-before.ensures)
-          ∙ made text (blocks_then text array s.left.stores s.right.stores (steps_then text array s.after (Ended None))) left printed
-          ∙ ap (λ (t : Task). rest_of_run c.args.schedule.now.fuel c.args.schedule.now.picks.now t (world_of c.stores.new.self left printed)) (blocks_next text s c.as_slice-left.result.now c.as_slice-right.result.now c.as_slice-left.ensures c.as_slice-right.ensures)
-          ∙ ends text (steps_then text array s.after (Ended None)) left printed),
+          (λ left printed.
+          ap (λ (t : Task). rest_of_run c.args.schedule.now.fuel c.args.schedule.now.picks.now t (world_of c.args.self.now left printed)) (stores_first s c.as_slice-before.result.now c.as_slice-before.ensures)
+          ∙ made (blocks_then array s.left.stores s.right.stores (steps_then array s.after (Ended None))) left printed
+          ∙ ap (λ (t : Task). rest_of_run c.args.schedule.now.fuel c.args.schedule.now.picks.now t (world_of c.stores.new.self left printed)) (blocks_next s c.as_slice-left.result.now c.as_slice-right.result.now c.as_slice-left.ensures c.as_slice-right.ensures)
+          ∙ ends (steps_then array s.after (Ended None)) left printed),
     )
 
 pub steps-requires-clause-within : goal.steps-requires-clause-within
@@ -72,10 +72,10 @@ returns-clause-prints g c =
       p.1,
       p.2,
       steps_run_on c.args.schedule.now.fuel c.args.schedule.now.picks.now s c.args.self.now c.blocks-2.new.self c.steps.new.self p.0 c.steps.result
-          (λ text left printed.
-          ap (λ (t : Task). rest_of_run c.args.schedule.now.fuel c.args.schedule.now.picks.now t (world_of c.args.self.now left printed)) (stores_first text s c.as_slice-before.result.now c.as_slice-before.ensures)
-          ∙ made text (blocks_then text array s.left.stores s.right.stores (steps_then text array s.after (Ended None))) left printed
-          ∙ ap (λ (t : Task). rest_of_run c.args.schedule.now.fuel c.args.schedule.now.picks.now t (world_of c.stores.new.self left printed)) (blocks_next text s c.as_slice-left.result.now c.as_slice-right.result.now c.as_slice-left.ensures c.as_slice-right.ensures)
-          ∙ done text (steps_then text array s.after (Ended None)) left printed)
+          (λ left printed.
+          ap (λ (t : Task). rest_of_run c.args.schedule.now.fuel c.args.schedule.now.picks.now t (world_of c.args.self.now left printed)) (stores_first s c.as_slice-before.result.now c.as_slice-before.ensures)
+          ∙ made (blocks_then array s.left.stores s.right.stores (steps_then array s.after (Ended None))) left printed
+          ∙ ap (λ (t : Task). rest_of_run c.args.schedule.now.fuel c.args.schedule.now.picks.now t (world_of c.stores.new.self left printed)) (blocks_next s c.as_slice-left.result.now c.as_slice-right.result.now c.as_slice-left.ensures c.as_slice-right.ensures)
+          ∙ done (steps_then array s.after (Ended None)) left printed)
           c.as_slice-after.result.now c.as_slice-after.ensures p.3,
     )

@@ -14,7 +14,7 @@ invariant-loop-step g l = record {
   within : l.self.cost ≤ l.schedule.fuel;
   same_faults : g.K.Sink.faults l.out ≡ g.K.Sink.faults l.fn.out;
   prints : (numbers : List ℤ) × Appends (g.K.Sink.written l.fn.out) (g.K.Sink.written l.out) (number_lines numbers)
-      × ((text : List ℕ) (rest : Task) (left : ℕ) (printed : List ℤ) →
-      rest_of_run l.schedule.fuel l.schedule.picks.now (steps_then text array l.steps rest) (world_of l.fn.self left printed)
-      ≡ rest_of_run l.schedule.fuel l.schedule.picks.now (steps_then text array (drop l.step-index l.steps) rest) (world_of l.self left (printed ++ numbers)));
+      × ((rest : Task) (left : ℕ) (printed : List ℤ) →
+      rest_of_run l.schedule.fuel l.schedule.picks.now (steps_then array l.steps rest) (world_of l.fn.self left printed)
+      ≡ rest_of_run l.schedule.fuel l.schedule.picks.now (steps_then array (drop l.step-index l.steps) rest) (world_of l.self left (printed ++ numbers)));
 }

@@ -10,7 +10,7 @@ invariant-loop-store l = record {
   is_array : IsArray l.self.memory;
   same_length : array_len l.self.memory ≡ array_len l.fn.self.memory;
   within : l.self.cost ≤ l.schedule.fuel;
-  goes_on : (text : List ℕ) (rest : Task) (left : ℕ) (printed : List ℤ) →
-      rest_of_run l.schedule.fuel l.schedule.picks.now (stores_then text array l.stores rest) (world_of l.fn.self left printed)
-      ≡ rest_of_run l.schedule.fuel l.schedule.picks.now (stores_then text array (drop l.store-index l.stores) rest) (world_of l.self left printed);
+  goes_on : (rest : Task) (left : ℕ) (printed : List ℤ) →
+      rest_of_run l.schedule.fuel l.schedule.picks.now (stores_then array l.stores rest) (world_of l.fn.self left printed)
+      ≡ rest_of_run l.schedule.fuel l.schedule.picks.now (stores_then array (drop l.store-index l.stores) rest) (world_of l.self left printed);
 }

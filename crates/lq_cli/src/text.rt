@@ -1,0 +1,120 @@
+ghost use Rattle.std.specs.Prelude.{◌≡◌, ◌≤◌, ⊤, length, IfOk, MatchResult};
+ghost use Rattle.lq_lexer.specs.Tokens.{Tokens};
+ghost use Rattle.lq_cli.specs.Answer.{quantity_numbered};
+ghost use Rattle.lq_cli.specs.Liquid.{most_source_bytes};
+ghost use Rattle.lq_cli.specs.Ready.{OnTold, TellsText};
+ghost use Rattle.lq_cli.specs.Text.{Shaped, HasTree, IsCounted, IsNamed, Reads};
+
+use crate::answer::{Answer, Quantity};
+use crate::ready::Stop;
+use lq_lexer::laws::tokens_lie_in_text;
+use lq_lexer::{LexFault, Token, check_shape, lex};
+use lq_names::{NamesFault, check_counts, check_names};
+use lq_parser::{ParseFault, parse};
+use lq_tree::{Limit, Program, place_of};
+use std::alloc::Global;
+
+// The tokens of a text.
+fn tokens_of<'a>(alloc: Global, text: &[u8]) -> Result<Vec<Token>, Stop<'a>>
+    requires { length text.now ≤ most_source_bytes }
+    ensures tokens { IfOk result (λ tokens. Tokens text.now tokens.items) }
+    ensures told { MatchResult result (λ _. ⊤) (λ stop. OnTold stop (TellsText text.now)) }
+{
+    match lex(alloc, text) {
+        Ok(tokens) => Ok(tokens),
+        Err(LexFault::At { at }) => Err(Stop::Told(Answer::Lexical(place_of(text, at)))),
+        Err(LexFault::NoMemory) => Err(Stop::NoMemory),
+    }
+}
+
+// Tests the shape of the tokens of a text.
+fn test_shape<'a>(text: &[u8], tokens: &[Token]) -> Result<(), Stop<'a>>
+    requires { Tokens text.now tokens.now }
+    ensures shaped { IfOk result (λ _. Shaped text.now tokens.now) }
+    ensures told { MatchResult result (λ _. ⊤) (λ stop. OnTold stop (TellsText text.now)) }
+{
+    match check_shape(text, tokens) {
+        Ok(()) => Ok(()),
+        Err(Limit { which, found, .. }) => {
+            let quantity = Quantity::numbered(which);
+            Err(Stop::Told(Answer::Limit(quantity, found as usize)))
+        }
+    }
+}
+
+// The tree that the tokens of a text spell.
+fn tree_of<'a>(alloc: Global, text: &[u8], tokens: &[Token]) -> Result<Program, Stop<'a>>
+    requires short { length text.now ≤ most_source_bytes }
+    requires shaped { Shaped text.now tokens.now }
+    ensures tree { IfOk result (HasTree text.now) }
+    ensures told { MatchResult result (λ _. ⊤) (λ stop. OnTold stop (TellsText text.now)) }
+{
+    // A fault lies in the text, since the tokens do.
+    tokens_lie_in_text();
+    match parse(alloc, text, tokens) {
+        Ok(tree) => Ok(tree),
+        Err(ParseFault::Annotation { at }) => {
+            Err(Stop::Told(Answer::Annotation(place_of(text, at))))
+        }
+        Err(ParseFault::Syntax { at }) => Err(Stop::Told(Answer::Syntax(place_of(text, at)))),
+        Err(ParseFault::NoMemory) => Err(Stop::NoMemory),
+    }
+}
+
+// Tests the counts of a tree.
+fn test_counts<'a>(text: &[u8], tree: &Program) -> Result<(), Stop<'a>>
+    requires { HasTree text.now tree.now }
+    ensures counted { IfOk result (λ _. IsCounted tree.now) }
+    ensures told { MatchResult result (λ _. ⊤) (λ stop. OnTold stop (TellsText text.now)) }
+{
+    match check_counts(tree) {
+        Ok(()) => Ok(()),
+        Err(Limit { which, found, .. }) => {
+            let quantity = Quantity::numbered(which);
+            Err(Stop::Told(Answer::Limit(quantity, found as usize)))
+        }
+    }
+}
+
+// Tests the name rules of a tree.
+fn test_names<'a>(alloc: Global, text: &[u8], tree: &Program) -> Result<(), Stop<'a>>
+    requires tree { HasTree text.now tree.now }
+    requires counted { IsCounted tree.now }
+    ensures named { IfOk result (λ _. IsNamed tree.now) }
+    ensures told { MatchResult result (λ _. ⊤) (λ stop. OnTold stop (TellsText text.now)) }
+{
+    match check_names(alloc, tree) {
+        Ok(()) => Ok(()),
+        Err(NamesFault::Rule { rule, at }) => Err(Stop::Told(Answer::Names(rule, at))),
+        Err(NamesFault::NoMemory) => Err(Stop::NoMemory),
+    }
+}
+
+// Tests a tree.
+fn test_tree<'a>(alloc: Global, text: &[u8], tree: &Program) -> Result<(), Stop<'a>>
+    requires { HasTree text.now tree.now }
+    ensures reads { IfOk result (λ _. Reads text.now tree.now) }
+    ensures told { MatchResult result (λ _. ⊤) (λ stop. OnTold stop (TellsText text.now)) }
+{
+    test_counts(text, tree)?;
+    test_names(alloc, text, tree)
+}
+
+/// The tree that a text spells, where it keeps the limits of counts and the name rules, or why
+/// there is none.
+pub fn read_tree<'a>(alloc: Global, text: &[u8]) -> Result<Program, Stop<'a>>
+    requires { length text.now ≤ most_source_bytes }
+    ensures tree { IfOk result (Reads text.now) }
+    ensures told { MatchResult result (λ _. ⊤) (λ stop. OnTold stop (TellsText text.now)) }
+{
+    let tokens = tokens_of(alloc, text)?;
+    test_shape(text, &tokens)?;
+    let tree = tree_of(alloc, text, &tokens)?;
+    match test_tree(alloc, text, &tree) {
+        Ok(()) => Ok(tree),
+        Err(stop) => {
+            drop(tree);
+            Err(stop)
+        }
+    }
+}

@@ -1,0 +1,10 @@
+pub mod Faults
+pub mod Rules
+pub mod Scopes
+pub mod Seen
+pub mod Sites
+pub mod Types
+pub mod Headers
+pub mod Calls
+pub mod Broken
+pub mod Counts

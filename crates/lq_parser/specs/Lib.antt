@@ -1,0 +1,9 @@
+pub mod Lexemes
+pub mod Source
+pub mod Types
+pub mod Expressions
+pub mod Statements
+pub mod Programs
+pub mod Sequence
+pub mod Outcome
+pub mod Spelling
