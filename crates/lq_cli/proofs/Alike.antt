@@ -4,8 +4,8 @@ use Rattle.std.proofs.lemmas.Bool.{cases_lt, cases_eq}
 use Rattle.lq_tree.specs.declared.place.Place.{Place}
 use Rattle.lq_meaning.specs.World.{World}
 use Rattle.lq_meaning.specs.Ending.{Trap, Strayed, Outcome}
-use Rattle.lq_cli.specs.Task.{Task, Ended, Due, Fork, runnable, Stepped, Moves, Leaves, step}
-use Rattle.lq_cli.specs.Run.{first_pick, other_picks, ending_of, leaf_of, then_run, run}
+use Rattle.lq_machine.specs.Task.{Task, Ended, Due, Fork, runnable, Stepped, Moves, Leaves, step}
+use Rattle.lq_machine.specs.Run.{first_pick, other_picks, ending_of, leaf_of, then_run, run}
 use Rattle.lq_cli.specs.Same.{Agree}
 use Rattle.lq_cli.proofs.Leaves.{LeafAt, leaf_at, Leaf-number}
 use Rattle.lq_cli.proofs.Commute.{StillLeads, Meeting, leaves_commute}

@@ -3,12 +3,12 @@ use Rattle.std.proofs.Common.{◌≡◌, ℕ, ◌%◌, ◌<◌, ℤ, pos, Bool, 
 use Rattle.std.specs.Prelude.{All}
 use Rattle.std.proofs.lemmas.Bool.Decides.{nat_tests}
 use Rattle.std.proofs.lemmas.List.Elements.{All-head, All-tail}
-use Rattle.lq_tree.specs.declared.place.Place.{Place}
 use Rattle.lq_meaning.specs.World.{World, Action, Store as StoreWord, Answers, act}
 use Rattle.lq_meaning.specs.Ending.{Outcome}
 use Rattle.lq_cli.specs.declared.slice.Store.{Store}
-use Rattle.lq_cli.specs.Task.{Task, Ended, Due, Fork, none, more, forked, step, Moves, moved, resumed}
-use Rattle.lq_cli.specs.Run.{run_or_end, stores_then, blocks_then, first_pick, leaf_of}
+use Rattle.lq_machine.specs.Task.{Spot, Task, Ended, Due, Fork, none, more, forked, step, Moves, moved, resumed}
+use Rattle.lq_machine.specs.Run.{run_or_end, first_pick, leaf_of}
+use Rattle.lq_cli.specs.Run.{spot, stores_then, blocks_then}
 use Rattle.lq_cli.specs.Machine.{IsArray, array, array_len, rest_of_run, spent, after_store, taken}
 use Rattle.lq_cli.proofs.Rests.{moves_on, spent_ends}
 use Rattle.lq_cli.proofs.MachineSteps.{store_acts}
@@ -18,19 +18,19 @@ abbrev two : Task → Task → Task → Task
 two first second rest = Fork (more first (more second none)) rest
 
 -- a step of the first child
-step_first : (at : Place) (action : Action) (next : ℤ → Task) (second rest : Task) (w after : World) (n : ℕ) (word : ℤ) → n ≡ 0 → act action w ≡ Answers word after → step (two (Due at action next) second rest) n w ≡ Moves (forked (more (next word) (more second none)) rest) after
+step_first : (at : Spot) (action : Action) (next : ℤ → Task) (second rest : Task) (w after : World) (n : ℕ) (word : ℤ) → n ≡ 0 → act action w ≡ Answers word after → step (two (Due at action next) second rest) n w ≡ Moves (forked (more (next word) (more second none)) rest) after
 step_first at action next second rest w after n word leaf acts =
     ap (λ k. step (two (Due at action next) second rest) k w) leaf
     ∙ ap (λ a. moved (λ cs. forked cs rest) (moved (λ t. more t (more second none)) (resumed at next a))) acts
 
 -- a step of the second child, where an action of the first is due
-step_second : (at at' : Place) (action action' : Action) (next next' : ℤ → Task) (rest : Task) (w after : World) (n : ℕ) (word : ℤ) → n ≡ 1 → act action' w ≡ Answers word after → step (two (Due at action next) (Due at' action' next') rest) n w ≡ Moves (forked (more (Due at action next) (more (next' word) none)) rest) after
+step_second : (at at' : Spot) (action action' : Action) (next next' : ℤ → Task) (rest : Task) (w after : World) (n : ℕ) (word : ℤ) → n ≡ 1 → act action' w ≡ Answers word after → step (two (Due at action next) (Due at' action' next') rest) n w ≡ Moves (forked (more (Due at action next) (more (next' word) none)) rest) after
 step_second at at' action action' next next' rest w after n word leaf acts =
     ap (λ k. step (two (Due at action next) (Due at' action' next') rest) k w) leaf
     ∙ ap (λ a. moved (λ cs. forked cs rest) (moved (more (Due at action next)) (moved (λ t. more t none) (resumed at' next' a)))) acts
 
 -- a step of the second child, where the first has ended
-step_only : (at' : Place) (action' : Action) (next' : ℤ → Task) (rest : Task) (w after : World) (n : ℕ) (word : ℤ) → n ≡ 0 → act action' w ≡ Answers word after → step (two (Ended None) (Due at' action' next') rest) n w ≡ Moves (forked (more (Ended None) (more (next' word) none)) rest) after
+step_only : (at' : Spot) (action' : Action) (next' : ℤ → Task) (rest : Task) (w after : World) (n : ℕ) (word : ℤ) → n ≡ 0 → act action' w ≡ Answers word after → step (two (Ended None) (Due at' action' next') rest) n w ≡ Moves (forked (more (Ended None) (more (next' word) none)) rest) after
 step_only at' action' next' rest w after n word leaf acts =
     ap (λ k. step (two (Ended None) (Due at' action' next') rest) k w) leaf
     ∙ ap (λ a. moved (λ cs. forked cs rest) (moved (more (Ended None)) (moved (λ t. more t none) (resumed at' next' a)))) acts
@@ -63,19 +63,19 @@ module _ (fuel : ℕ) (picks : List ℕ) (rest : Task) (w : World) (below : w.co
 
   first_of_both : (s t : Store) (left right : List Store) → within (s, left, t ∷ right) → first_pick (drop w.cost picks) % 2 ≡ 0 → rest_of_run fuel picks (blocks_then array (s ∷ left) (t ∷ right) rest) w ≡ goes_on (s, left, t ∷ right)
   first_of_both s t left right h leaf =
-      by_step (s ∷ left) (t ∷ right) (s, left, t ∷ right) (λ due. refl) (step_first s.at (StoreWord array (pos s.index) 0 s.value) (λ _. stores_then array left (Ended None)) (stores_then array (t ∷ right) (Ended None)) rest w (after_store w s) (first_pick (drop w.cost picks) % 2) s.value leaf (store_acts w s a h))
+      by_step (s ∷ left) (t ∷ right) (s, left, t ∷ right) (λ due. refl) (step_first (spot s.at) (StoreWord array (pos s.index) 0 s.value) (λ _. stores_then array left (Ended None)) (stores_then array (t ∷ right) (Ended None)) rest w (after_store w s) (first_pick (drop w.cost picks) % 2) s.value leaf (store_acts w s a h))
 
   second_of_both : (s t : Store) (left right : List Store) → within (t, s ∷ left, right) → first_pick (drop w.cost picks) % 2 ≡ 1 → rest_of_run fuel picks (blocks_then array (s ∷ left) (t ∷ right) rest) w ≡ goes_on (t, s ∷ left, right)
   second_of_both s t left right h leaf =
-      by_step (s ∷ left) (t ∷ right) (t, s ∷ left, right) (λ due. refl) (step_second s.at t.at (StoreWord array (pos s.index) 0 s.value) (StoreWord array (pos t.index) 0 t.value) (λ _. stores_then array left (Ended None)) (λ _. stores_then array right (Ended None)) rest w (after_store w t) (first_pick (drop w.cost picks) % 2) t.value leaf (store_acts w t a h))
+      by_step (s ∷ left) (t ∷ right) (t, s ∷ left, right) (λ due. refl) (step_second (spot s.at) (spot t.at) (StoreWord array (pos s.index) 0 s.value) (StoreWord array (pos t.index) 0 t.value) (λ _. stores_then array left (Ended None)) (λ _. stores_then array right (Ended None)) rest w (after_store w t) (first_pick (drop w.cost picks) % 2) t.value leaf (store_acts w t a h))
 
   first_alone : (s : Store) (left : List Store) → within (s, left, []) → rest_of_run fuel picks (blocks_then array (s ∷ left) [] rest) w ≡ goes_on (s, left, [])
   first_alone s left h =
-      by_step (s ∷ left) [] (s, left, []) (λ due. refl) (step_first s.at (StoreWord array (pos s.index) 0 s.value) (λ _. stores_then array left (Ended None)) (Ended None) rest w (after_store w s) (first_pick (drop w.cost picks) % 1) s.value (mod_one (first_pick (drop w.cost picks))) (store_acts w s a h))
+      by_step (s ∷ left) [] (s, left, []) (λ due. refl) (step_first (spot s.at) (StoreWord array (pos s.index) 0 s.value) (λ _. stores_then array left (Ended None)) (Ended None) rest w (after_store w s) (first_pick (drop w.cost picks) % 1) s.value (mod_one (first_pick (drop w.cost picks))) (store_acts w s a h))
 
   second_alone : (t : Store) (right : List Store) → within (t, [], right) → rest_of_run fuel picks (blocks_then array [] (t ∷ right) rest) w ≡ goes_on (t, [], right)
   second_alone t right h =
-      by_step [] (t ∷ right) (t, [], right) (λ due. refl) (step_only t.at (StoreWord array (pos t.index) 0 t.value) (λ _. stores_then array right (Ended None)) rest w (after_store w t) (first_pick (drop w.cost picks) % 1) t.value (mod_one (first_pick (drop w.cost picks))) (store_acts w t a h))
+      by_step [] (t ∷ right) (t, [], right) (λ due. refl) (step_only (spot t.at) (StoreWord array (pos t.index) 0 t.value) (λ _. stores_then array right (Ended None)) rest w (after_store w t) (first_pick (drop w.cost picks) % 1) t.value (mod_one (first_pick (drop w.cost picks))) (store_acts w t a h))
 
   -- the choice of a pick between two stores that are due
   chosen : (s t : Store) (left right : List Store) (even : Bool) → (first_pick (drop w.cost picks) % 2 == 0) ≡ even → (r : Store × List Store × List Store) → cond even (Some (s, left, t ∷ right)) (Some (t, s ∷ left, right)) ≡ Some r → within r → rest_of_run fuel picks (blocks_then array (s ∷ left) (t ∷ right) rest) w ≡ goes_on r

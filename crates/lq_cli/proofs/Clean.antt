@@ -1,11 +1,10 @@
 -- Clean tasks: no runnable leaf strays, and no two of them meet, however the run goes on.
 use Rattle.std.proofs.Common.{◌≢◌, ℕ, zero, suc, ◌<◌, ℤ, Option, sym, subst, arith}
-use Rattle.lq_tree.specs.declared.place.Place.{Place}
 use Rattle.lq_meaning.specs.World.{World, Action, act}
 use Rattle.lq_meaning.specs.Ending.{Trap}
 use Rattle.lq_meaning.proofs.Apart.{Apart}
-use Rattle.lq_cli.specs.Task.{Task, Ended, Due, runnable, Stepped, Moves, Leaves, moved, resumed, step}
-use Rattle.lq_cli.specs.Run.{leaf_of}
+use Rattle.lq_machine.specs.Task.{Spot, Task, Ended, Due, runnable, Stepped, Moves, Leaves, moved, resumed, step}
+use Rattle.lq_machine.specs.Run.{leaf_of}
 use Rattle.lq_cli.proofs.Leaves.{LeafAt, leaf_at, Leaf-number, step-Leaf}
 use Rattle.lq_cli.proofs.Runs.{leaf_of-is_leaf}
 
@@ -36,7 +35,7 @@ clean_ended (suc n) trap w =
     record { apart = λ i j one other differ. absurd (omega (arith, Leaf-number one.leaf)); steps = λ pick. clean_ended n trap w }
 
 -- one leaf alone, where what it becomes is clean
-pub clean_alone : (n : ℕ) (at : Place) (action : Action) (next : ℤ → Task) (w : World) → StaysClean (IsClean n) (resumed at next (act action w)) →
+pub clean_alone : (n : ℕ) (at : Spot) (action : Action) (next : ℤ → Task) (w : World) → StaysClean (IsClean n) (resumed at next (act action w)) →
     IsClean (suc n) (Due at action next) w
 clean_alone n at action next w stays =
     record { apart = λ i j one other differ. absurd (omega (arith, Leaf-number one.leaf, Leaf-number other.leaf, differ)); steps = λ pick. stays }

@@ -1,17 +1,16 @@
 -- Steps of two runnable leaves of one task, whose actions are apart, commute.
 use Rattle.std.proofs.Common.{◌≡◌, ◌≢◌, ℕ, ◌+◌, ℤ, refl, sym, ap, ◌∙◌, subst}
-use Rattle.lq_tree.specs.declared.place.Place.{Place}
 use Rattle.lq_tree.specs.declared.trap.TrapKind.{TrapKind}
 use Rattle.lq_meaning.specs.World.{World, Action, Acted, Answers, Traps, Strays, act}
 use Rattle.lq_meaning.proofs.Apart.{Apart, apart_commute, apart-Traps, Apart-sym}
-use Rattle.lq_cli.specs.Task.{Task, Tasks, more, runnable, forked, Moves, moved, resumed, step}
+use Rattle.lq_machine.specs.Task.{Spot, Task, Tasks, more, runnable, forked, Moves, moved, resumed, step}
 use Rattle.lq_cli.proofs.Leaves.{LeafAt, Leaf, here, inside, LeafIn, first, later, step-Leaf, step-answers, inside_forked}
 
 -- Behind x in the place of one leaf the other leaf is still there, behind y in the place of the other the one is, and
 -- with both in their places the whole is the same. `one` and `other` put a task in the place of the first and the second leaf.
-record Beside (T : Type 0) (IsLeaf : T → ℕ → Place → Action → (ℤ → Task) → (Task → T) → Type 0)
-    (at_one : Place) (action_one : Action) (next_one : ℤ → Task) (one : Task → T)
-    (at_other : Place) (action_other : Action) (next_other : ℤ → Task) (other : Task → T)
+record Beside (T : Type 0) (IsLeaf : T → ℕ → Spot → Action → (ℤ → Task) → (Task → T) → Type 0)
+    (at_one : Spot) (action_one : Action) (next_one : ℤ → Task) (one : Task → T)
+    (at_other : Spot) (action_other : Action) (next_other : ℤ → Task) (other : Task → T)
     (x y : Task) : Type 0 where
   number_other : ℕ
   put_other : Task → T
@@ -25,8 +24,8 @@ module _ (x y : Task) where
   mutual
     -- two different leaves of a task stay beside one another
     beside : {task : Task}
-        {m : ℕ} {at_one : Place} {action_one : Action} {next_one : ℤ → Task} {one : Task → Task} (leaf_one : Leaf task m at_one action_one next_one one)
-        {n : ℕ} {at_other : Place} {action_other : Action} {next_other : ℤ → Task} {other : Task → Task}
+        {m : ℕ} {at_one : Spot} {action_one : Action} {next_one : ℤ → Task} {one : Task → Task} (leaf_one : Leaf task m at_one action_one next_one one)
+        {n : ℕ} {at_other : Spot} {action_other : Action} {next_other : ℤ → Task} {other : Task → Task}
         (leaf_other : Leaf task n at_other action_other next_other other) →
         m ≢ n →
         Beside Task Leaf at_one action_one next_one one at_other action_other next_other other x y
@@ -45,8 +44,8 @@ module _ (x y : Task) where
 
     -- the same of leaves among tasks
     beside_in : {tasks : Tasks}
-        {m : ℕ} {at_one : Place} {action_one : Action} {next_one : ℤ → Task} {one : Task → Tasks} (leaf_one : LeafIn tasks m at_one action_one next_one one)
-        {n : ℕ} {at_other : Place} {action_other : Action} {next_other : ℤ → Task} {other : Task → Tasks}
+        {m : ℕ} {at_one : Spot} {action_one : Action} {next_one : ℤ → Task} {one : Task → Tasks} (leaf_one : LeafIn tasks m at_one action_one next_one one)
+        {n : ℕ} {at_other : Spot} {action_other : Action} {next_other : ℤ → Task} {other : Task → Tasks}
         (leaf_other : LeafIn tasks n at_other action_other next_other other) →
         m ≢ n →
         Beside Tasks LeafIn at_one action_one next_one one at_other action_other next_other other x y
@@ -100,7 +99,7 @@ record AnswersWith (r : Acted) (next : ℤ → Task) (put : Task → Task) (task
   becomes : task ≡ put (next word)
 
 -- what comes of an action that does not trap
-answers_with : (at : Place) (next : ℤ → Task) (put : Task → Task) (r : Acted) (task : Task) (w : World) →
+answers_with : (at : Spot) (next : ℤ → Task) (put : Task → Task) (r : Acted) (task : Task) (w : World) →
     ((kind : TrapKind) (after : World) → r ≢ Traps kind after) →
     moved put (resumed at next r) ≡ Moves task w →
     AnswersWith r next put task w

@@ -1,6 +1,6 @@
 -- Every list of picks gives the sequential execution.
 use Rattle.std.proofs.Common.{[], sym, subst}
-use Rattle.lq_meaning.specs.Meaning.{start}
+use Rattle.lq_meaning.specs.Entry.{start}
 use Rattle.lq_cli.specs.Run.{task_of, run_slice}
 use Rattle.lq_cli.specs.Same.{Agree, PicksDoNotMatter}
 use Rattle.lq_cli.proofs.Alike.{runs_alike, never_strays}

@@ -1,48 +1,47 @@
 -- The runnable leaves of a task, by clauses on the tree and not by number.
 use Rattle.std.proofs.Common.{◌≡◌, ℕ, ◌+◌, ◌-◌, ◌<◌, ℤ, ◌==◌, nat_lt, true, false, refl, sym, ap, ◌∙◌, subst, ⊎_elim, arith}
 use Rattle.std.proofs.lemmas.Bool.{cases_lt, lt-ltb, le-ltb, ne_eqb}
-use Rattle.lq_tree.specs.declared.place.Place.{Place}
 use Rattle.lq_meaning.specs.World.{World, Action, Answers, act}
-use Rattle.lq_cli.specs.Task.{Task, Ended, Due, Fork, Tasks, none, more, runnable, all_runnable, forked, Stepped, Moves, Leaves, moved, resumed, step, step_in}
+use Rattle.lq_machine.specs.Task.{Spot, Task, Ended, Due, Fork, Tasks, none, more, runnable, all_runnable, forked, Stepped, Moves, Leaves, moved, resumed, step, step_in}
 
 -- A runnable leaf of a task, or of tasks: its number, its place, its action, what it becomes by its answer, and the
 -- whole with another task in its place.
 mutual
-  pub data Leaf : Task → ℕ → Place → Action → (ℤ → Task) → (Task → Task) → Type 0 where
-    here : {at : Place} {action : Action} {next : ℤ → Task} → Leaf (Due at action next) 0 at action next (λ task. task)
-    inside : {children : Tasks} {behind : Task} {n : ℕ} {at : Place} {action : Action} {next : ℤ → Task} {put : Task → Tasks} →
+  pub data Leaf : Task → ℕ → Spot → Action → (ℤ → Task) → (Task → Task) → Type 0 where
+    here : {at : Spot} {action : Action} {next : ℤ → Task} → Leaf (Due at action next) 0 at action next (λ task. task)
+    inside : {children : Tasks} {behind : Task} {n : ℕ} {at : Spot} {action : Action} {next : ℤ → Task} {put : Task → Tasks} →
         LeafIn children n at action next put →
         Leaf (Fork children behind) n at action next (λ task. forked (put task) behind)
 
-  pub data LeafIn : Tasks → ℕ → Place → Action → (ℤ → Task) → (Task → Tasks) → Type 0 where
-    first : {child : Task} {children : Tasks} {n : ℕ} {at : Place} {action : Action} {next : ℤ → Task} {put : Task → Task} →
+  pub data LeafIn : Tasks → ℕ → Spot → Action → (ℤ → Task) → (Task → Tasks) → Type 0 where
+    first : {child : Task} {children : Tasks} {n : ℕ} {at : Spot} {action : Action} {next : ℤ → Task} {put : Task → Task} →
         Leaf child n at action next put →
         LeafIn (more child children) n at action next (λ task. more (put task) children)
-    later : {child : Task} {children : Tasks} {n : ℕ} {at : Place} {action : Action} {next : ℤ → Task} {put : Task → Tasks} →
+    later : {child : Task} {children : Tasks} {n : ℕ} {at : Spot} {action : Action} {next : ℤ → Task} {put : Task → Tasks} →
         LeafIn children n at action next put →
         LeafIn (more child children) (runnable child + n) at action next (λ task. more child (put task))
 
 -- a leaf's number is below the number of runnable leaves
 mutual
-  pub Leaf-number : {task : Task} {n : ℕ} {at : Place} {action : Action} {next : ℤ → Task} {put : Task → Task} → Leaf task n at action next put → n < runnable task
+  pub Leaf-number : {task : Task} {n : ℕ} {at : Spot} {action : Action} {next : ℤ → Task} {put : Task → Task} → Leaf task n at action next put → n < runnable task
   Leaf-number here = omega arith
   Leaf-number (inside leaf) = LeafIn-number leaf
 
-  pub LeafIn-number : {tasks : Tasks} {n : ℕ} {at : Place} {action : Action} {next : ℤ → Task} {put : Task → Tasks} →
+  pub LeafIn-number : {tasks : Tasks} {n : ℕ} {at : Spot} {action : Action} {next : ℤ → Task} {put : Task → Tasks} →
       LeafIn tasks n at action next put → n < all_runnable tasks
   LeafIn-number (first leaf) = omega (arith, Leaf-number leaf)
   LeafIn-number (later leaf) = omega (arith, LeafIn-number leaf)
 
 -- each number below that of the runnable leaves has its leaf
 pub record LeafAt (task : Task) (n : ℕ) : Type 0 where
-  pub at : Place
+  pub at : Spot
   pub action : Action
   pub next : ℤ → Task
   pub put : Task → Task
   pub leaf : Leaf task n at action next put
 
 record LeafInAt (tasks : Tasks) (n : ℕ) : Type 0 where
-  at : Place
+  at : Spot
   action : Action
   next : ℤ → Task
   put : Task → Tasks
@@ -84,12 +83,12 @@ moved-moved f g (Leaves at w) = refl
 
 -- the step of a leaf's number is the leaf's action, and puts what the leaf becomes in its place
 mutual
-  pub step-Leaf : {task : Task} {n : ℕ} {at : Place} {action : Action} {next : ℤ → Task} {put : Task → Task} → Leaf task n at action next put →
+  pub step-Leaf : {task : Task} {n : ℕ} {at : Spot} {action : Action} {next : ℤ → Task} {put : Task → Task} → Leaf task n at action next put →
       (w : World) → step task n w ≡ moved put (resumed at next (act action w))
   step-Leaf (here {at} {action} {next}) w = sym (moved-same (resumed at next (act action w)))
   step-Leaf (inside {behind = behind} leaf) w = ap (moved (λ children. forked children behind)) (step_in-LeafIn leaf w) ∙ moved-moved _ _ _
 
-  step_in-LeafIn : {tasks : Tasks} {n : ℕ} {at : Place} {action : Action} {next : ℤ → Task} {put : Task → Tasks} → LeafIn tasks n at action next put →
+  step_in-LeafIn : {tasks : Tasks} {n : ℕ} {at : Spot} {action : Action} {next : ℤ → Task} {put : Task → Tasks} → LeafIn tasks n at action next put →
       (w : World) → step_in tasks n w ≡ moved put (resumed at next (act action w))
   step_in-LeafIn (first {child} {children} {n} leaf) w =
       let below : nat_lt n (runnable child) ≡ true = lt-ltb _ _ (Leaf-number leaf) in
@@ -100,20 +99,20 @@ mutual
       rw (behind, number) (ap (moved (more child)) (step_in-LeafIn leaf w) ∙ moved-moved _ _ _)
 
 -- and where the action answers, the task goes on with the answer
-pub step-answers : {task : Task} {n : ℕ} {at : Place} {action : Action} {next : ℤ → Task} {put : Task → Task} → Leaf task n at action next put →
+pub step-answers : {task : Task} {n : ℕ} {at : Spot} {action : Action} {next : ℤ → Task} {put : Task → Task} → Leaf task n at action next put →
     (w : World) (word : ℤ) (after : World) →
     act action w ≡ Answers word after → step task n w ≡ Moves (put (next word)) after
 step-answers {at = at} {next = next} {put} leaf w word after e = step-Leaf leaf w ∙ ap (λ r. moved put (resumed at next r)) e
 
 -- a fork with a runnable leaf stays a fork
-pub forked-LeafIn : {children : Tasks} {n : ℕ} {at : Place} {action : Action} {next : ℤ → Task} {put : Task → Tasks} (behind : Task) →
+pub forked-LeafIn : {children : Tasks} {n : ℕ} {at : Spot} {action : Action} {next : ℤ → Task} {put : Task → Tasks} (behind : Task) →
     LeafIn children n at action next put → forked children behind ≡ Fork children behind
 forked-LeafIn {children} behind leaf =
     let some : (all_runnable children == 0) ≡ false = ne_eqb _ _ (λ e. absurd (omega (arith, LeafIn-number leaf, e))) in
     rw some refl
 
 -- a leaf among children is a leaf of their fork
-pub inside_forked : {children : Tasks} {n : ℕ} {at : Place} {action : Action} {next : ℤ → Task} {put : Task → Tasks} (behind : Task) →
+pub inside_forked : {children : Tasks} {n : ℕ} {at : Spot} {action : Action} {next : ℤ → Task} {put : Task → Tasks} (behind : Task) →
     LeafIn children n at action next put → Leaf (forked children behind) n at action next (λ task. forked (put task) behind)
 inside_forked {n = n} {at} {action} {next} {put} behind leaf =
     subst (λ task. Leaf task n at action next (λ task. forked (put task) behind)) (sym (forked-LeafIn behind leaf)) (inside leaf)

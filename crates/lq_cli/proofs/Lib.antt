@@ -20,6 +20,7 @@ pub mod Printed
 pub mod SliceRun
 pub mod Commands
 pub mod PickNumbers
+pub mod ParenthesesStand
 pub mod Prepared
 pub mod Stopped
 pub mod Told

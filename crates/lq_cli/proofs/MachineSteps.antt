@@ -5,8 +5,8 @@ use Rattle.lq_meaning.specs.Memory.{address, with_word}
 use Rattle.lq_meaning.specs.World.{World, Store as StoreWord, Answers, act, stored, counted}
 use Rattle.lq_cli.specs.declared.slice.Store.{Store}
 use Rattle.lq_cli.specs.declared.machine.Machine.{Machine}
-use Rattle.lq_cli.specs.Task.{Task}
-use Rattle.lq_cli.specs.Run.{stores_then}
+use Rattle.lq_machine.specs.Task.{Task}
+use Rattle.lq_cli.specs.Run.{spot, stores_then}
 use Rattle.lq_cli.specs.Machine.{IsArray, array, array_len, world_of, rest_of_run, spent, after_store}
 use Rattle.lq_cli.proofs.ArrayWords.{reach_in_array}
 use Rattle.lq_cli.proofs.Rests.{due_goes_on, spent_ends}
@@ -33,7 +33,7 @@ stores_go_on fuel picks stores i rest old new left printed here below a within m
     let s = get_or stores i no_store in
     let w = world_of old left printed in
     ap (λ ss. rest_of_run fuel picks (stores_then array ss rest) w) (drop_is stores i no_store here)
-    ∙ due_goes_on fuel picks s.at (StoreWord array (pos s.index) 0 s.value) (λ _. stores_then array (drop (i + 1) stores) rest) w (after_store w s) s.value below refl (store_acts w s a within)
+    ∙ due_goes_on fuel picks (spot s.at) (StoreWord array (pos s.index) 0 s.value) (λ _. stores_then array (drop (i + 1) stores) rest) w (after_store w s) s.value below refl (store_acts w s a within)
     ∙ ap (rest_of_run fuel picks (stores_then array (drop (i + 1) stores) rest)) (world_after old new s left printed memory cost)
 
 -- stores that are due where the fuel is spent

@@ -4,12 +4,11 @@ use Rattle.std.specs.Prelude.{nat_lt}
 use Rattle.std.proofs.lemmas.List.{append-nil}
 use Rattle.std.proofs.lemmas.Bool.{cond_both}
 use Rattle.lq_meaning.proofs.Costs.{left_by}
-use Rattle.lq_tree.specs.declared.place.Place.{Place}
 use Rattle.lq_meaning.specs.Memory.{Address, reach}
-use Rattle.lq_meaning.specs.World.{World, Action, Allocate, Load, Store, Print, Acted, Answers, Traps, Strays, act, allocated, take_words, loaded, stored, counted}
+use Rattle.lq_meaning.specs.World.{World, Action, Allocate, Load, Store, Print, Enter, Test, Start, Acted, Answers, Traps, Strays, act, allocated, take_words, loaded, stored, entered, counted}
 use Rattle.lq_meaning.specs.Ending.{Outcome}
-use Rattle.lq_cli.specs.Task.{Task, Ended, Due, Fork, Tasks, none, more, forked, step, step_in, Stepped, Moves, Leaves, moved, resumed, runnable}
-use Rattle.lq_cli.specs.Run.{run, then_run, first_pick, other_picks, leaf_of}
+use Rattle.lq_machine.specs.Task.{Spot, Task, Ended, Due, Fork, Tasks, none, more, forked, step, step_in, Stepped, Moves, Leaves, moved, resumed, runnable}
+use Rattle.lq_machine.specs.Run.{run, then_run, first_pick, other_picks, leaf_of}
 
 -- what was printed is a front of what is printed now
 abbrev pub Adds : List ℤ → List ℤ → Type 0
@@ -37,11 +36,18 @@ stored_adds : (w : World) (r : Option Address) (word : ℤ) → Adds w.printed (
 stored_adds w None word = Adds-none w.printed
 stored_adds w (Some a) word = Adds-none w.printed
 
+entered_adds : (w : World) (left : ℕ) → Adds w.printed (left_by (entered w left)).printed
+entered_adds w zero = Adds-none w.printed
+entered_adds w (suc left) = Adds-none w.printed
+
 act_adds : (action : Action) (w : World) → Adds w.printed (left_by (act action w)).printed
 act_adds (Allocate count fields) w = allocated_adds (counted w) count fields
 act_adds (Load p i field) w = loaded_adds (counted w) (reach w.memory p i field)
 act_adds (Store p i field word) w = stored_adds (counted w) (reach w.memory p i field) word
 act_adds (Print number) w = (number ∷ [], refl)
+act_adds (Enter left) w = entered_adds (counted w) left
+act_adds Test w = Adds-none w.printed
+act_adds Start w = Adds-none w.printed
 
 -- the world that a step leaves
 abbrev left_after : {T : Type 0} → Stepped T → World
@@ -52,7 +58,7 @@ moved_adds : {S T : Type 0} (old : List ℤ) (f : S → T) (s : Stepped S) → A
 moved_adds old f (Moves task w) adds = adds
 moved_adds old f (Leaves at w) adds = adds
 
-resumed_adds : (old : List ℤ) (at : Place) (next : ℤ → Task) (a : Acted) → Adds old (left_by a).printed → Adds old (left_after (resumed at next a)).printed
+resumed_adds : (old : List ℤ) (at : Spot) (next : ℤ → Task) (a : Acted) → Adds old (left_by a).printed → Adds old (left_after (resumed at next a)).printed
 resumed_adds old at next (Answers word w) adds = adds
 resumed_adds old at next (Traps kind w) adds = adds
 resumed_adds old at next (Strays w) adds = adds

@@ -1,11 +1,10 @@
 -- How the rest of a run goes on by one action.
 use Rattle.std.proofs.Common.{◌≡◌, ℕ, zero, suc, ◌+◌, ◌-◌, ◌<◌, ℤ, List, [], ◌∷◌, drop, refl, sym, ap, ◌∙◌, arith, zero-add}
 use Rattle.std.proofs.Math.Seq.{drop-nil}
-use Rattle.lq_tree.specs.declared.place.Place.{Place}
 use Rattle.lq_meaning.specs.World.{World, Action, Answers, act}
 use Rattle.lq_meaning.specs.Ending.{Outcome}
-use Rattle.lq_cli.specs.Task.{Task, Due, step, Moves, resumed}
-use Rattle.lq_cli.specs.Run.{run, then_run, run_or_end, first_pick, other_picks, leaf_of}
+use Rattle.lq_machine.specs.Task.{Spot, Task, Due, step, Moves, resumed}
+use Rattle.lq_machine.specs.Run.{run, then_run, run_or_end, first_pick, other_picks, leaf_of}
 use Rattle.lq_cli.specs.Machine.{rest_of_run, spent}
 
 -- the picks behind those that are used and one more
@@ -30,7 +29,7 @@ moves_on fuel picks task next w after below cost runs moves =
     ∙ ap (λ n. run (fuel - n) (drop n picks) next after) (sym cost)
 
 -- an action that is answered goes on with its answer
-pub due_goes_on : (fuel : ℕ) (picks : List ℕ) (at : Place) (action : Action) (next : ℤ → Task) (w after : World) (word : ℤ) → w.cost < fuel → after.cost ≡ w.cost + 1 → act action w ≡ Answers word after → rest_of_run fuel picks (Due at action next) w ≡ rest_of_run fuel picks (next word) after
+pub due_goes_on : (fuel : ℕ) (picks : List ℕ) (at : Spot) (action : Action) (next : ℤ → Task) (w after : World) (word : ℤ) → w.cost < fuel → after.cost ≡ w.cost + 1 → act action w ≡ Answers word after → rest_of_run fuel picks (Due at action next) w ≡ rest_of_run fuel picks (next word) after
 due_goes_on fuel picks at action next w after word below cost acts =
     moves_on fuel picks (Due at action next) (next word) w after below cost (λ due. refl) (ap (resumed at next) acts)
 

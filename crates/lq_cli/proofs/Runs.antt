@@ -4,8 +4,8 @@ use Rattle.std.proofs.lemmas.Bool.{le-ltb}
 use Rattle.std.proofs.Math.Nat.{mod-eq_of_lt}
 use Rattle.lq_meaning.specs.World.{World}
 use Rattle.lq_meaning.specs.Ending.{Spent}
-use Rattle.lq_cli.specs.Task.{Task, Ended, Due, Fork, Tasks, none, more, runnable, all_runnable, forked, Moves, moved, step, step_in}
-use Rattle.lq_cli.specs.Run.{first_pick, other_picks, leaf_of, then_run, run}
+use Rattle.lq_machine.specs.Task.{Task, Ended, Due, Fork, Tasks, none, more, runnable, all_runnable, forked, Moves, moved, step, step_in}
+use Rattle.lq_machine.specs.Run.{first_pick, other_picks, leaf_of, then_run, run}
 
 -- where an action is due, a run takes a step if there is fuel, and is out of fuel otherwise
 pub run-step : (fuel : ℕ) (picks : List ℕ) (task : Task) (w : World) → 0 < runnable task →

@@ -5,16 +5,15 @@ use Rattle.std.proofs.lemmas.List.Elements.{All-head, All-tail, All-weaker}
 use Rattle.std.proofs.lemmas.List.{length-replicate}
 use Rattle.std.proofs.Math.Nat.{mul-one}
 use Rattle.std.proofs.lemmas.Bool.{cond_both, ne_eqb}
-use Rattle.lq_tree.specs.declared.place.Place.{Place}
 use Rattle.lq_meaning.specs.World.{World, Action, Allocate, Load, Store as StoreWord, Print as PrintNumber, counted, act}
-use Rattle.lq_meaning.specs.Meaning.{start}
+use Rattle.lq_meaning.specs.Entry.{start}
 use Rattle.lq_meaning.proofs.Apart.{Apart, Apart-sym}
 use Rattle.lq_cli.specs.declared.slice.Store.{Store as Stored}
 use Rattle.lq_cli.specs.declared.slice.Step.{Step}
 use Rattle.lq_cli.specs.declared.slice.Step.TheVariants.{Store as StoreStep, Print as PrintStep}
 use Rattle.lq_cli.specs.declared.slice.Slice.{Slice}
-use Rattle.lq_cli.specs.Task.{Task, Ended, Due, Fork, Tasks, none, more, runnable, all_runnable, forked, moved, resumed}
-use Rattle.lq_cli.specs.Run.{stores_then, steps_then, blocks_then, task_of}
+use Rattle.lq_machine.specs.Task.{Spot, Task, Ended, Due, Fork, Tasks, none, more, runnable, all_runnable, forked, moved, resumed}
+use Rattle.lq_cli.specs.Run.{spot, stores_then, steps_then, blocks_then, task_of}
 use Rattle.lq_cli.specs.Literal.{step_index, IsAccepted}
 use Rattle.lq_cli.proofs.Leaves.{Leaf, here, inside, LeafIn, first, later, Leaf-number, LeafIn-number}
 use Rattle.lq_cli.proofs.Clean.{StaysClean, IsClean, clean_ended, clean_alone, clean_by_leaves}
@@ -38,7 +37,7 @@ abbrev Differs : Stored → Stored → Type 0
 Differs t o = o.index ≢ t.index
 
 -- an action that answers and leaves the array, and what is clean behind it
-alone_over : (count : ℕ) (at : Place) (action : Action) (next : ℤ → Task) → ((w : World) → IsArray count w.memory → Keeps count action w) →
+alone_over : (count : ℕ) (at : Spot) (action : Action) (next : ℤ → Task) → ((w : World) → IsArray count w.memory → Keeps count action w) →
     ((word : ℤ) → CleanOver count (next word)) →
     CleanOver count (Due at action next)
 alone_over count at action next keeps behind zero w a = tt
@@ -51,7 +50,7 @@ module _ (count : ℕ) where
   stores_over : (stores : List Stored) (rest : Task) → All (Below count) stores → CleanOver count rest → CleanOver count (stores_then array stores rest)
   stores_over [] rest below clean = clean
   stores_over (s ∷ stores) rest below clean =
-      alone_over count s.at (StoreWord array (pos s.index) 0 s.value) (λ _. stores_then array stores rest)
+      alone_over count (spot s.at) (StoreWord array (pos s.index) 0 s.value) (λ _. stores_then array stores rest)
       (λ w a. store_keeps count s.index s.value w a (All-head (Below count) s stores below))
       (λ _. stores_over stores rest (All-tail (Below count) s stores below) clean)
 
@@ -63,15 +62,15 @@ module _ (count : ℕ) where
   steps_over : (steps : List Step) (rest : Task) → All (StepBelow count) steps → CleanOver count rest → CleanOver count (steps_then array steps rest)
   steps_over [] rest below clean = clean
   steps_over (StoreStep s ∷ steps) rest below clean =
-      alone_over count s.at (StoreWord array (pos s.index) 0 s.value) (λ _. steps_then array steps rest)
+      alone_over count (spot s.at) (StoreWord array (pos s.index) 0 s.value) (λ _. steps_then array steps rest)
       (λ w a. store_keeps count s.index s.value w a (All-head (StepBelow count) (StoreStep s) steps below))
       (λ _. steps_over steps rest (All-tail (StepBelow count) (StoreStep s) steps below) clean)
   steps_over (PrintStep at index ∷ steps) rest below clean =
-      alone_over count at (Load array (pos index) 0)
-      (λ number. Due at (PrintNumber number) (λ _. steps_then array steps rest))
+      alone_over count (spot at) (Load array (pos index) 0)
+      (λ number. Due (spot at) (PrintNumber number) (λ _. steps_then array steps rest))
       (λ w a. load_keeps count index w a (All-head (StepBelow count) (PrintStep at index) steps below))
       (λ number.
-      alone_over count at (PrintNumber number) (λ _. steps_then array steps rest) (print_keeps number)
+      alone_over count (spot at) (PrintNumber number) (λ _. steps_then array steps rest) (print_keeps number)
       (λ _. steps_over steps rest (All-tail (StepBelow count) (PrintStep at index) steps below) clean))
 
   -- a block in progress
@@ -88,7 +87,7 @@ module _ (count : ℕ) where
     becomes : (word : ℤ) → put (next word) ≡ branch others
 
   -- each leaf of a block is that
-  first_store : (stores : List Stored) {k : ℕ} {at : Place} {action : Action} {next : ℤ → Task} {put : Task → Task} →
+  first_store : (stores : List Stored) {k : ℕ} {at : Spot} {action : Action} {next : ℤ → Task} {put : Task → Task} →
       Leaf (branch stores) k at action next put → FirstStore stores k action next put
   first_store [] leaf = absurd (omega (arith, Leaf-number leaf))
   first_store (s ∷ stores) here = record { store = s; others = stores; is = refl; number = refl; action_is = refl; becomes = λ word. refl }
@@ -140,8 +139,8 @@ module _ (count : ℕ) where
         (heads_apart w.memory one.store other.store one.others other.others a blocks))
 
     -- two different leaves of the two blocks are apart
-    blocks_apart : {i : ℕ} {at_one : Place} {action_one : Action} {next_one : ℤ → Task} {put_one : Task → Tasks}
-        {j : ℕ} {at_other : Place} {action_other : Action} {next_other : ℤ → Task} {put_other : Task → Tasks} →
+    blocks_apart : {i : ℕ} {at_one : Spot} {action_one : Action} {next_one : ℤ → Task} {put_one : Task → Tasks}
+        {j : ℕ} {at_other : Spot} {action_other : Action} {next_other : ℤ → Task} {put_other : Task → Tasks} →
         LeafIn (both left right) i at_one action_one next_one put_one →
         LeafIn (both left right) j at_other action_other next_other put_other →
         i ≢ j → Apart w.memory action_one action_other
@@ -164,7 +163,7 @@ module _ (count : ℕ) where
   module _ (rest : Task) (n : ℕ) (left right : List Stored) (w : World) (a : IsArray count w.memory) (b : Blocks left right)
       (less : (left right : List Stored) (w : World) → IsArray count w.memory → Blocks left right → IsClean n (forked (both left right) rest) w) where
     -- the step of each leaf leaves two blocks with one store less
-    leaf_stays : {k : ℕ} {at : Place} {action : Action} {next : ℤ → Task} {put : Task → Task} →
+    leaf_stays : {k : ℕ} {at : Spot} {action : Action} {next : ℤ → Task} {put : Task → Task} →
         Leaf (Fork (both left right) rest) k at action next put → StaysClean (IsClean n) (moved put (resumed at next (act action w)))
     leaf_stays (inside (first {put = put} leaf)) =
         let f = first_store left leaf in
@@ -181,8 +180,8 @@ module _ (count : ℕ) where
     leaf_stays (inside (later (later leaf))) = absurd (omega (arith, LeafIn-number leaf))
 
     -- two different leaves of the fork are apart
-    leaves_apart : {i : ℕ} {at_one : Place} {action_one : Action} {next_one : ℤ → Task} {put_one : Task → Task}
-        {j : ℕ} {at_other : Place} {action_other : Action} {next_other : ℤ → Task} {put_other : Task → Task} →
+    leaves_apart : {i : ℕ} {at_one : Spot} {action_one : Action} {next_one : ℤ → Task} {put_one : Task → Task}
+        {j : ℕ} {at_other : Spot} {action_other : Action} {next_other : ℤ → Task} {put_other : Task → Task} →
         Leaf (Fork (both left right) rest) i at_one action_one next_one put_one →
         Leaf (Fork (both left right) rest) j at_other action_other next_other put_other →
         i ≢ j → Apart w.memory action_one action_other
@@ -204,7 +203,7 @@ module _ (count : ℕ) where
   fork_over rest clean (suc n) [] (t ∷ right) w a b = busy_fork rest n [] (t ∷ right) w a b (fork_over rest clean n) (omega arith)
 
 -- what the declaration leaves: a trap, or a memory with the array alone
-declared_clean : (n count words : ℕ) (at : Place) (next : ℤ → Task) → 0 < count → CleanOver count (next array) →
+declared_clean : (n count words : ℕ) (at : Spot) (next : ℤ → Task) → 0 < count → CleanOver count (next array) →
     StaysClean (IsClean n) (resumed at next (act (Allocate (pos count) 1) (start words)))
 declared_clean n zero words at next some clean = absurd (omega arith)
 declared_clean n (suc k) words at next some clean =
@@ -222,6 +221,6 @@ slice_clean s words (suc n) accepted =
     let blocks : CleanOver s.count (blocks_then array s.left.stores s.right.stores rest) = λ n w a.
     fork_over s.count rest steps n s.left.stores s.right.stores w a (record { left_below = f.left; right_below = f.right; differ = f.differ }) in
     let whole = stores_over s.count s.before (blocks_then array s.left.stores s.right.stores rest) f.before blocks in
-    clean_alone n s.declaration (Allocate (pos s.count) 1)
+    clean_alone n (spot s.declaration) (Allocate (pos s.count) 1)
     (λ p. stores_then p s.before (blocks_then p s.left.stores s.right.stores (steps_then p s.after (Ended None)))) (start words)
-    (declared_clean n s.count words s.declaration _ f.some whole)
+    (declared_clean n s.count words (spot s.declaration) _ f.some whole)

@@ -15,15 +15,16 @@ use Rattle.lq_meaning.specs.End.{Tells, IsOfRun, IsSinkFault}
 use Rattle.lq_meaning.specs.Memory.{with_block}
 use Rattle.lq_meaning.specs.World.{World, Allocate, Answers, Traps, act, counted, take_words}
 use Rattle.lq_meaning.specs.Ending.{Trap, Outcome, Trapped, Spent}
-use Rattle.lq_meaning.specs.Meaning.{start}
+use Rattle.lq_meaning.specs.Entry.{start}
 use Rattle.lq_cli.specs.declared.machine.Machine.{Machine}
 use Rattle.lq_cli.specs.declared.slice.Store.{Store}
 use Rattle.lq_cli.specs.declared.slice.Step.{Step}
 use Rattle.lq_cli.specs.declared.slice.Step.TheVariants.{Store as StoreStep, Print as PrintStep}
 use Rattle.lq_cli.specs.declared.slice.Slice.{Slice}
 use Rattle.lq_cli.specs.Literal.{step_index}
-use Rattle.lq_cli.specs.Task.{Ended, resumed}
-use Rattle.lq_cli.specs.Run.{run, run_slice, task_of, then_run, other_picks, ending_of, stores_then, blocks_then, steps_then}
+use Rattle.lq_machine.specs.Task.{Ended, resumed}
+use Rattle.lq_machine.specs.Run.{run, then_run, other_picks, ending_of}
+use Rattle.lq_cli.specs.Run.{spot, run_slice, task_of, stores_then, blocks_then, steps_then}
 use Rattle.lq_cli.specs.Machine.{IsArray, array, array_len, world_of, rest_of_run, spent, behind_calloc, RunsOn, GoesOn, StepWithin, end_of}
 use Rattle.lq_cli.specs.Lines.{number_lines}
 use Rattle.lq_cli.proofs.Printed.{run_adds}
@@ -104,13 +105,13 @@ run_from_start fuel words picks s =
 pub run_goes_on : (fuel words : ℕ) (picks : List ℕ) (s : Slice) → 0 < fuel → 0 < s.count → s.count ≤ words → run_slice fuel words picks s ≡ rest_of_run fuel picks (behind_calloc s) (behind_start s.count words)
 run_goes_on fuel words picks s some count enough =
     run_from_start fuel words picks s
-    ∙ due_goes_on fuel picks s.declaration (Allocate (pos s.count) 1) (λ p. stores_then p s.before (blocks_then p s.left.stores s.right.stores (steps_then p s.after (Ended None)))) (start words) (behind_start s.count words) array some refl (allocates s.count words count enough)
+    ∙ due_goes_on fuel picks (spot s.declaration) (Allocate (pos s.count) 1) (λ p. stores_then p s.before (blocks_then p s.left.stores s.right.stores (steps_then p s.after (Ended None)))) (start words) (behind_start s.count words) array some refl (allocates s.count words count enough)
 
 -- one whose array has none traps
 pub run_traps : (fuel words : ℕ) (picks : List ℕ) (s : Slice) → 0 < fuel → words < s.count → run_slice fuel words picks s ≡ record { ending = Trapped (record { kind = Words; at = s.declaration }); world = counted (start words) }
 run_traps zero words picks s some much = absurd (omega arith)
 run_traps (suc n) words picks s some much =
-    ap (λ a. then_run (resumed s.declaration (λ p. stores_then p s.before (blocks_then p s.left.stores s.right.stores (steps_then p s.after (Ended None)))) a) (run n (other_picks picks))) (allocates_too_much s.count words much)
+    ap (λ a. then_run (resumed (spot s.declaration) (λ p. stores_then p s.before (blocks_then p s.left.stores s.right.stores (steps_then p s.after (Ended None)))) a) (run n (other_picks picks))) (allocates_too_much s.count words much)
     ∙ run_ended n (other_picks picks) (Some (record { kind = Words; at = s.declaration })) (counted (start words))
 
 -- where there is no fuel, the `calloc` is not made

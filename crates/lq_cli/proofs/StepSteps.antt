@@ -10,8 +10,8 @@ use Rattle.lq_cli.specs.declared.machine.Machine.{Machine}
 use Rattle.lq_cli.specs.declared.slice.Store.{Store}
 use Rattle.lq_cli.specs.declared.slice.Step.{Step}
 use Rattle.lq_cli.specs.declared.slice.Step.TheVariants.{Store as StoreStep, Print as PrintStep}
-use Rattle.lq_cli.specs.Task.{Task, Due}
-use Rattle.lq_cli.specs.Run.{steps_then}
+use Rattle.lq_machine.specs.Task.{Task, Due}
+use Rattle.lq_cli.specs.Run.{spot, steps_then}
 use Rattle.lq_cli.specs.Machine.{IsArray, array, array_len, element, world_of, rest_of_run, spent, after_store, step_then, printed_by, after_print, IsSpentAt}
 use Rattle.lq_cli.specs.Lines.{number_line, number_lines}
 use Rattle.lq_cli.proofs.ArrayWords.{reach_in_array}
@@ -27,17 +27,17 @@ load_acts w index a below = ap (loaded (counted w)) (reach_in_array w.memory ind
 module _ (fuel : ℕ) (picks : List ℕ) (at : Place) (index : ℕ) (rest : Task) (m : Machine) (left : ℕ) (printed : List ℤ) (a : IsArray m.memory) (within : index < array_len m.memory) where
   -- the print that is due behind the load
   abbrev print_due : ℤ → Task
-  print_due number = Due at (PrintNumber number) (λ _. rest)
+  print_due number = Due (spot at) (PrintNumber number) (λ _. rest)
 
   load_goes_on : m.cost < fuel → rest_of_run fuel picks (step_then array (PrintStep at index) rest) (world_of m left printed) ≡ rest_of_run fuel picks (print_due (element m.memory index)) (counted (world_of m left printed))
-  load_goes_on below = due_goes_on fuel picks at (Load array (pos index) 0) print_due (world_of m left printed) (counted (world_of m left printed)) (element m.memory index) below refl (load_acts (world_of m left printed) index a within)
+  load_goes_on below = due_goes_on fuel picks (spot at) (Load array (pos index) 0) print_due (world_of m left printed) (counted (world_of m left printed)) (element m.memory index) below refl (load_acts (world_of m left printed) index a within)
 
   -- a load and a print go on with the number printed
   pub print_goes_on : m.cost + 2 ≤ fuel → rest_of_run fuel picks (step_then array (PrintStep at index) rest) (world_of m left printed) ≡ rest_of_run fuel picks rest (after_print m left printed (element m.memory index ∷ []))
   print_goes_on enough =
       let two : m.cost + 1 + 1 ≡ m.cost + 2 = omega arith in
       load_goes_on (omega arith)
-      ∙ due_goes_on fuel picks at (PrintNumber (element m.memory index)) (λ _. rest) (counted (world_of m left printed)) (after_print m left printed (element m.memory index ∷ [])) (element m.memory index) (omega arith) (sym two) (ap (λ n. Answers (element m.memory index) (record { memory = m.memory; left = left; cost = n; printed = printed ++ element m.memory index ∷ [] })) two)
+      ∙ due_goes_on fuel picks (spot at) (PrintNumber (element m.memory index)) (λ _. rest) (counted (world_of m left printed)) (after_print m left printed (element m.memory index ∷ [])) (element m.memory index) (omega arith) (sym two) (ap (λ n. Answers (element m.memory index) (record { memory = m.memory; left = left; cost = n; printed = printed ++ element m.memory index ∷ [] })) two)
 
   -- a load or a print that is due where the fuel is spent
   pub print_spent : (new : Machine) → new.memory ≡ m.memory → IsSpentAt fuel m.cost new.cost → rest_of_run fuel picks (step_then array (PrintStep at index) rest) (world_of m left printed) ≡ spent (world_of new left printed)
@@ -77,7 +77,7 @@ pub store_done : (fuel : ℕ) (picks : List ℕ) (old new : Machine) (step : Ste
 store_done fuel picks old new step s is below a within memory cost rest left printed =
     let w = world_of old left printed in
     ap (λ (t : Step). rest_of_run fuel picks (step_then array t rest) w) is
-    ∙ due_goes_on fuel picks s.at (StoreWord array (pos s.index) 0 s.value) (λ _. rest) w (after_store w s) s.value below refl (store_acts w s a within)
+    ∙ due_goes_on fuel picks (spot s.at) (StoreWord array (pos s.index) 0 s.value) (λ _. rest) w (after_store w s) s.value below refl (store_acts w s a within)
     ∙ ap (rest_of_run fuel picks rest) (world_after old new s left printed memory cost)
     ∙ ap (λ (numbers : List ℤ). rest_of_run fuel picks rest (world_of new left numbers)) (sym (append-nil printed) ∙ ap (λ (t : Step). printed ++ printed_by old.memory t) (sym is))
 

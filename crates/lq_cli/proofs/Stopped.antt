@@ -1,8 +1,7 @@
 -- Why a command stops before its run.
-use Rattle.std.proofs.Common.{◌≡◌, ◌≢◌, ℕ, List, [], ◌∷◌, length, None, Some, refl, sym, subst}
+use Rattle.std.proofs.Common.{◌≡◌, ℕ, List, [], ◌∷◌, length, None, Some, refl, sym, subst}
 use Rattle.lq_shelf.specs.Shelf.{Holding}
 use Rattle.lq_tree.specs.declared.place.Place.{Place}
-use Rattle.lq_tree.specs.declared.program.Program.{Program}
 use Rattle.lq_cli.specs.declared.slice.Slice.{Slice}
 use Rattle.lq_cli.specs.declared.answer.Quantity.{Quantity}
 use Rattle.lq_cli.specs.declared.answer.Quantity.TheVariants.{SourceBytes}
@@ -13,11 +12,15 @@ use Rattle.lq_cli.specs.declared.ready.Stop.TheVariants.{Told, NoMemory}
 use Rattle.lq_cli.specs.Lines.{read_fault, limit}
 use Rattle.lq_cli.specs.Answer.{quantity_text, allowed_of}
 use Rattle.lq_cli.specs.Command.{Command, Spells}
-use Rattle.lq_cli.specs.Liquid.{Sourced, Picked, Answers, bad_words, source_fault, source_bytes, without_tree, outside, with_slice, refused}
+use Rattle.lq_cli.specs.Liquid.{Sourced, Picked, Answers, bad_words, source_fault, source_bytes, without_slice, with_slice, refused}
 use Rattle.lq_cli.specs.Literal.{literal_faults, first_of, IsAccepted}
 use Rattle.lq_cli.specs.Source.{program}
-use Rattle.lq_cli.specs.Text.{Reads}
-use Rattle.lq_cli.specs.Ready.{TellsText, OnTold, Fetches, PicksStop, Stops}
+use Rattle.lq_cli.specs.Text.{IsOfSlice}
+use Rattle.lq_cli.specs.Ready.{TellsText, HasSlice, OnTold, Fetches, PicksStop, Stops}
+
+-- a source of a slice, with the tree of the slice
+pub is_of_slice : (text : List ℕ) (s : Slice) (source : HasSlice text s) → IsOfSlice text (program source.array s) source.array s
+is_of_slice text s source = record { is = refl; parentheses = source.parentheses }
 
 module _ (held : List ℕ → Holding) (Failed : List ℕ → Type 0) (words : List (List ℕ)) where
   pub words_stop : ((c : Command) → ¬ Spells words c) → Stops held Failed words (Told BadWords)
@@ -46,19 +49,17 @@ module _ (held : List ℕ → Holding) (Failed : List ℕ → Type 0) (words : L
   module _ (c : Command) (text : List ℕ) (sourced : Sourced held words c text) where
     pub text_stops : (stop : Stop) → OnTold stop (TellsText text) → Stops held Failed words stop
     text_stops NoMemory told = tt
-    text_stops (Told answer) told = λ means. without_tree c text sourced told
+    text_stops (Told answer) told = λ means. without_slice c text sourced told
 
-    module _ (tree : Program) (reads : Reads text tree) where
-      pub outside_stops : ((name : List ℕ) (s : Slice) → tree ≢ program name s) → Stops held Failed words (Told Outside)
-      outside_stops none = λ means. outside c text tree sourced reads none
+    module _ (s : Slice) (source : HasSlice text s) where
+      pub picks_stop : (found : Holding) → held c.picks ≡ found → (stop : Stop) → PicksStop found Failed c.picks stop → Stops held Failed words stop
+      picks_stop found same NoMemory told = tt
+      picks_stop found same (Told answer) told = λ means.
+          with_slice c text (program source.array s) source.array s sourced source.reads (is_of_slice text s source) (told held means c (program source.array s) s refl same)
 
-      module _ (name : List ℕ) (s : Slice) (is : tree ≡ program name s) where
-        pub picks_stop : (found : Holding) → held c.picks ≡ found → (stop : Stop) → PicksStop found Failed c.picks stop → Stops held Failed words stop
-        picks_stop found same NoMemory told = tt
-        picks_stop found same (Told answer) told = λ means. with_slice c text tree name s sourced reads is (told held means c tree s refl same)
-
-        pub literal_stops : (picks : List ℕ) (at : Place) → Picked held c picks → first_of (literal_faults s) ≡ Some at → Stops held Failed words (Told (Literal at))
-        literal_stops picks at picked first = λ means. with_slice c text tree name s sourced reads is (refused picks at picked first)
+      pub literal_stops : (picks : List ℕ) (at : Place) → Picked held c picks → first_of (literal_faults s) ≡ Some at → Stops held Failed words (Told (Literal at))
+      literal_stops picks at picked first = λ means.
+          with_slice c text (program source.array s) source.array s sourced source.reads (is_of_slice text s source) (refused picks at picked first)
 
 -- where the check fails nowhere it accepts
 none_first : (places : List Place) → first_of places ≡ None → places ≡ []

@@ -1,6 +1,6 @@
--- Why a text has no tree, as it is told.
-use Rattle.std.proofs.Common.{◌≡◌, ℕ, ◌<◌, ◌≤◌, List, [], ◌∷◌, ◌++◌, length, take, true, false, Result, Ok, Err, Some, inl, inr, refl, sym, ap, ◌∙◌, subst, ⊎_elim, arith}
-use Rattle.std.specs.Prelude.{codes, All, IsOk, Bool, ◌⊎◌, if◌then◌else◌, nat_lt, Option, None}
+-- Why a text is no source of the slice, as it is told.
+use Rattle.std.proofs.Common.{◌≡◌, ◌≢◌, ℕ, ◌<◌, ◌≤◌, List, [], ◌∷◌, ◌++◌, length, take, true, false, Result, Ok, Err, Some, inl, inr, refl, sym, ap, ◌∙◌, subst, ⊎_elim, arith}
+use Rattle.std.specs.Prelude.{codes, All, IfNone, IsOk, MatchResult, ⊤, Bool, ◌⊎◌, if◌then◌else◌, nat_lt, Option, None}
 use Rattle.std.proofs.lemmas.Bool.{cases_lt}
 use Rattle.std.proofs.lemmas.List.{length-append}
 use Rattle.std.proofs.Math.Seq.{get_or-append_seam}
@@ -14,10 +14,17 @@ use Rattle.lq_lexer.specs.Shape.{texts_of, most_open, longest_stretch, IsShapely
 use Rattle.lq_parser.specs.Source.{place_at}
 use Rattle.lq_parser.specs.Spelling.{HasNoAnnotation, IsFirstAnnotation, IsFaultPlace, byte_of}
 use Rattle.lq_cli.specs.Lines.{line, limit}
+use Rattle.std.specs.Option.{ok_or}
+use Rattle.lq_cli.specs.declared.answer.Answer.TheVariants.{Outside}
+use Rattle.lq_cli.specs.declared.ready.Stop.TheVariants.{Told}
+use Rattle.lq_cli.specs.Ready.{OnTold, TellsText}
 use Rattle.lq_cli.specs.Answer.{quantity_text, allowed_of, quantity_numbered}
 use Rattle.lq_tree.specs.declared.program.Program.{Program}
 use Rattle.lq_names.specs.Counts.{Count, count as number, counts, first_passed, most_fields, program_sizes, answer}
-use Rattle.lq_cli.specs.Text.{Shaped, HasTree, TextAnswers, count_name, lexical, brackets, stretch, annotation, syntax, count}
+use Rattle.lq_cli.specs.declared.slice.Slice.{Slice}
+use Rattle.lq_cli.specs.Parentheses.{all_follow}
+use Rattle.lq_cli.specs.Source.{program}
+use Rattle.lq_cli.specs.Text.{Shaped, HasTree, Reads, TextAnswers, count_name, lexical, brackets, stretch, annotation, syntax, count, outside}
 
 module _ (text : List ℕ) (at : ℕ) (p : Place) (in_line : p.line ≡ line_of (take at text)) (in_column : p.col ≡ column_of (take at text)) where
   place_is : place_at text at ≡ p
@@ -128,3 +135,16 @@ pub count_told : (text : List ℕ) (tree : Program) (r : Result (Unit {0}) Limit
 count_told text tree r l has due is =
     let passed = passed_of (first_passed (counts tree)) r l due is in
     subst (λ (bytes : List ℕ). TextAnswers text 7 bytes) (counts_tell tree l passed) (count tree l has passed)
+
+-- a text that reads and yet is outside the slice
+module _ (text : List ℕ) (tree : Program) (reads : Reads text tree) where
+  pub parentheses_told : (tokens : List Token) → Tokens text tokens → ((one : List ℕ) (ts others : List Token) → Tokens one ts → Tokens one others → ts ≡ others)
+      → all_follow [] (texts_of text tokens) ≡ false → TextAnswers text 3 (line (codes "outside the slice"))
+  parentheses_told tokens lexed alone fails =
+      outside tree reads (λ name s of.
+      never (sym fails ∙ ap (λ (ts : List Token). all_follow [] (texts_of text ts)) (alone text tokens of.parentheses.tokens lexed of.parentheses.are) ∙ of.parentheses.stand))
+
+  pub no_slice_told : (found : Option Slice) → IfNone found ((name : List ℕ) (s : Slice) → tree ≢ program name s)
+      → MatchResult (ok_or found (Told Outside)) (λ slice. ⊤) (λ stop. OnTold stop (TellsText text))
+  no_slice_told None none = outside tree reads (λ name s of. none name s of.is)
+  no_slice_told (Some s) none = tt

@@ -13,10 +13,12 @@ use Rattle.lq_cli.specs.declared.ready.Ready.{Ready}
 use Rattle.lq_cli.specs.Answer.{IsLost}
 use Rattle.lq_cli.specs.Liquid.{Ends, done, trapped, spent, Tells, Begins, Means, interleaved, sequentially, Answers, with_slice, ran}
 use Rattle.lq_cli.specs.Ready.{IsReady}
-use Rattle.lq_cli.specs.Run.{ending_of, leaf_of, first_pick, other_picks, then_run, run, run_slice}
+use Rattle.lq_machine.specs.Run.{ending_of, leaf_of, first_pick, other_picks, then_run, run}
+use Rattle.lq_cli.specs.Run.{run_slice}
 use Rattle.lq_cli.specs.Source.{program}
 use Rattle.lq_cli.specs.Same.{Agree, PicksDoNotMatter}
-use Rattle.lq_cli.specs.Task.{Task, Ended, Due, Fork, Stepped, Moves, Leaves, step}
+use Rattle.lq_machine.specs.Task.{Task, Ended, Due, Fork, Stepped, Moves, Leaves, step}
+use Rattle.lq_cli.proofs.Stopped.{is_of_slice}
 
 -- some answer is due for an outcome
 abbrev pub HasEnd : Outcome → Type 0
@@ -85,10 +87,10 @@ module _ (held : List ℕ → Holding) (Failed : List ℕ → Type 0) (words : L
   abbrev outcome : Outcome
   outcome = run_slice r.fuel r.words r.picks.items r.slice
 
-  answer_of : (means : Means) (status : ℕ) (bytes : List ℕ) → Ends (means (program ready.array r.slice) r.slice ready.command r.picks.items) status bytes → Answers held Failed means words status bytes
-  answer_of means status bytes e = with_slice ready.command ready.text (program ready.array r.slice) ready.array r.slice ready.sourced ready.reads refl (ran r.picks.items ready.picked ready.accepted e)
+  answer_of : (means : Means) (status : ℕ) (bytes : List ℕ) → Ends (means (program ready.source.array r.slice) r.slice ready.command r.picks.items) status bytes → Answers held Failed means words status bytes
+  answer_of means status bytes e = with_slice ready.command ready.text (program ready.source.array r.slice) ready.source.array r.slice ready.sourced ready.source.reads (is_of_slice ready.text r.slice ready.source) (ran r.picks.items ready.picked ready.accepted e)
 
-  by_run : (status : ℕ) (bytes : List ℕ) → Ends outcome status bytes → Ends (interleaved (program ready.array r.slice) r.slice ready.command r.picks.items) status bytes
+  by_run : (status : ℕ) (bytes : List ℕ) → Ends outcome status bytes → Ends (interleaved (program ready.source.array r.slice) r.slice ready.command r.picks.items) status bytes
   by_run status bytes e =
       subst (λ (n : ℕ). Ends (run_slice ready.command.fuel n r.picks.items r.slice) status bytes) ready.room
       (subst (λ (n : ℕ). Ends (run_slice n r.words r.picks.items r.slice) status bytes) ready.fuel e)
@@ -106,7 +108,7 @@ module _ (held : List ℕ → Holding) (Failed : List ℕ → Type 0) (words : L
         t.0,
         t.1,
         answer_of sequentially result t.0
-            (agreed (interleaved (program ready.array r.slice) r.slice ready.command r.picks.items) (sequentially (program ready.array r.slice) r.slice ready.command r.picks.items)
-            (law ready.array r.slice ready.command.fuel ready.command.words r.picks.items ready.accepted).1 result t.0 (by_run result t.0 t.2)),
+            (agreed (interleaved (program ready.source.array r.slice) r.slice ready.command r.picks.items) (sequentially (program ready.source.array r.slice) r.slice ready.command r.picks.items)
+            (law ready.source.array r.slice ready.command.fuel ready.command.words r.picks.items ready.accepted).1 result t.0 (by_run result t.0 t.2)),
       ))
       told

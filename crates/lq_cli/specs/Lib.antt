@@ -1,11 +1,11 @@
 pub mod Lines
 pub mod Source
 pub mod Slicing
-pub mod Task
 pub mod Run
 pub mod Literal
 pub mod Same
 pub mod Command
+pub mod Parentheses
 pub mod Text
 pub mod Liquid
 pub mod Replay

@@ -1,6 +1,6 @@
 -- The answers of the program: the status and the bytes that are written, with the cause of each
 -- (docs/COMMANDS.md, "Replay today" and "Statuses").
-use Rattle.std.specs.Prelude.{◌≡◌, ◌≢◌, ℕ, ◌+◌, ◌<◌, ◌≤◌, pos, List, ◌++◌, length, map, Option, Some, codes, decimal}
+use Rattle.std.specs.Prelude.{◌≡◌, ℕ, ◌+◌, ◌<◌, ◌≤◌, pos, List, [], ◌++◌, length, map, Option, Some, codes, decimal}
 use Rattle.lq_tree.specs.declared.place.Place.{Place}
 use Rattle.lq_tree.specs.declared.program.Program.{Program}
 use Rattle.lq_tree.specs.Place.{place_text}
@@ -15,8 +15,7 @@ use Rattle.lq_cli.specs.Command.{Command, Spells}
 use Rattle.lq_cli.specs.Lines.{line, number_lines, trap, read_fault, limit}
 use Rattle.lq_cli.specs.Literal.{literal_faults, first_of, IsAccepted}
 use Rattle.lq_cli.specs.Run.{run_slice}
-use Rattle.lq_cli.specs.Source.{program}
-use Rattle.lq_cli.specs.Text.{Reads, TextAnswers}
+use Rattle.lq_cli.specs.Text.{Reads, IsOfSlice, TextAnswers}
 
 abbrev pub most_source_bytes : ℕ
 most_source_bytes = 262144
@@ -44,7 +43,7 @@ interleaved tree s c picks = run_slice c.fuel c.words picks s
 
 -- the sequential execution of the tree, to which picks mean nothing
 abbrev pub sequentially : Program → Slice → Command → (picks : List ℕ) → Outcome
-sequentially tree s c picks = sequential c.fuel c.words tree
+sequentially tree s c picks = sequential c.fuel c.words tree []
 
 -- what the fetches of a call gave, by what is held under each name
 module _ (held : List ℕ → Holding) where
@@ -77,7 +76,7 @@ Lost before after last name = Rose before after × (last ≡ name)
 
 -- the answers, by what is held under each name, by which fetches failed and by what a slice means
 module _ (held : List ℕ → Holding) (Failed : List ℕ → Type 0) (means : Means) where
-  -- the answers where the words are a command and the tree of its source is a slice
+  -- the answers where the words are a command and its source is of the slice
   pub data SliceAnswers (c : Command) (tree : Program) (s : Slice) : ℕ → List ℕ → Type 0 where
     picks_fault : Failed c.picks → SliceAnswers c tree s 9 (read_fault c.picks)
     pick_bytes : (bytes : List ℕ) → Fetched held c.picks most_pick_bytes bytes → most_pick_bytes < length bytes →
@@ -97,11 +96,9 @@ module _ (held : List ℕ → Holding) (Failed : List ℕ → Type 0) (means : M
     source_fault : (c : Command) → Spells words c → Failed c.source → Answers words 9 (read_fault c.source)
     source_bytes : (c : Command) (text : List ℕ) → Spells words c → Fetched held c.source most_source_bytes text → most_source_bytes < length text →
         Answers words 7 (limit (codes "source bytes") (length text) most_source_bytes)
-    without_tree : (c : Command) (text : List ℕ) {status : ℕ} {bytes : List ℕ} → Sourced held words c text → TextAnswers text status bytes → Answers words status bytes
-    outside : (c : Command) (text : List ℕ) (tree : Program) → Sourced held words c text → Reads text tree → ((name : List ℕ) (s : Slice) → tree ≢ program name s) →
-        Answers words 3 (line (codes "outside the slice"))
+    without_slice : (c : Command) (text : List ℕ) {status : ℕ} {bytes : List ℕ} → Sourced held words c text → TextAnswers text status bytes → Answers words status bytes
     with_slice : (c : Command) (text : List ℕ) (tree : Program) (name : List ℕ) (s : Slice) {status : ℕ} {bytes : List ℕ} →
-        Sourced held words c text → Reads text tree → tree ≡ program name s → SliceAnswers c tree s status bytes → Answers words status bytes
+        Sourced held words c text → Reads text tree → IsOfSlice text tree name s → SliceAnswers c tree s status bytes → Answers words status bytes
 
 -- a status and the bytes that were written with it are an answer
 abbrev pub Tells : (answers : ℕ → List ℕ → Type 0) → (written now : Option (List ℕ)) → ℕ → Type 0

@@ -12,8 +12,9 @@ use Rattle.lq_meaning.specs.declared.end.End.{End}
 use Rattle.lq_meaning.specs.declared.end.End.TheVariants.{Done as DoneEnd, Fuel as FuelEnd, SinkFault, NoMemory as NoMemoryEnd}
 use Rattle.lq_shelf.specs.declared.sink.Put.TheVariants.{Failed, NoMemory}
 use Rattle.lq_cli.specs.declared.slice.Slice.{Slice}
-use Rattle.lq_cli.specs.Task.{Task, Ended, Due}
-use Rattle.lq_cli.specs.Run.{run, stores_then, blocks_then, steps_then}
+use Rattle.lq_machine.specs.Task.{Task, Ended, Due}
+use Rattle.lq_machine.specs.Run.{run}
+use Rattle.lq_cli.specs.Run.{spot, stores_then, blocks_then, steps_then}
 use Rattle.lq_shelf.specs.declared.sink.Put.{Put}
 
 -- the array of a slice is the first block, and its pointer the answer of the `calloc`
@@ -64,9 +65,9 @@ after_store w s = record { memory = with_word w.memory (address 1 s.index 0) s.v
 
 -- one statement behind the blocks, and then the rest
 abbrev pub step_then : ℤ → Step → Task → Task
-step_then p (StoreStep s) rest = Due s.at (StoreWord p (pos s.index) 0 s.value) (λ _. rest)
+step_then p (StoreStep s) rest = Due (spot s.at) (StoreWord p (pos s.index) 0 s.value) (λ _. rest)
 step_then p (PrintStep at index) rest =
-    Due at (Load p (pos index) 0) (λ number. Due at (PrintNumber number) (λ _. rest))
+    Due (spot at) (Load p (pos index) 0) (λ number. Due (spot at) (PrintNumber number) (λ _. rest))
 
 -- the numbers that a step prints
 abbrev pub printed_by : Blocks → Step → List ℤ

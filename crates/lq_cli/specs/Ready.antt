@@ -15,6 +15,7 @@ use Rattle.lq_cli.specs.Answer.{allowed_of, status_of, line_of}
 use Rattle.lq_cli.specs.Command.{Command}
 use Rattle.lq_cli.specs.Liquid.{Means, Fetched, Sourced, Picked, SliceAnswers, Answers}
 use Rattle.lq_cli.specs.Literal.{IsAccepted}
+use Rattle.lq_cli.specs.Parentheses.{HasSliceParentheses}
 use Rattle.lq_cli.specs.Source.{program}
 use Rattle.lq_cli.specs.Text.{Reads, TextAnswers}
 
@@ -40,17 +41,22 @@ Fetches held Failed name quantity (Limit other found) =
     (other ≡ quantity) × (bytes : List ℕ) × (found ≡ length bytes) × Fetched held name (allowed_of quantity) bytes × (allowed_of quantity < length bytes)
 Fetches held Failed name quantity _ = ⊥
 
--- an answer to a text that has no tree
+-- an answer to a text that is no source of the slice
 abbrev pub TellsText : List ℕ → Answer → Type 0
 TellsText text answer = TextAnswers text (status_of answer) (line_of answer)
 
--- a command is ready: the tree of its source is a slice that the check of literals accepts, and its picks are read
+-- a text is a source of this slice
+pub record HasSlice (text : List ℕ) (s : Slice) : Type 0 where
+  pub array : List ℕ
+  pub reads : Reads text (program array s)
+  pub parentheses : HasSliceParentheses text
+
+-- a command is ready: its source is of a slice that the check of literals accepts, and its picks are read
 pub record IsReady (held : List ℕ → Holding) (words : List (List ℕ)) (r : Ready) : Type 0 where
   pub command : Command
   pub text : List ℕ
-  pub array : List ℕ
   pub sourced : Sourced held words command text
-  pub reads : Reads text (program array r.slice)
+  pub source : HasSlice text r.slice
   pub picked : Picked held command r.picks.items
   pub accepted : IsAccepted r.slice
   pub fuel : r.fuel ≡ command.fuel

@@ -1,5 +1,5 @@
 -- What two runs agree on.
-use Rattle.std.specs.Prelude.{◌≡◌, ◌≢◌, ℕ, List}
+use Rattle.std.specs.Prelude.{◌≡◌, ◌≢◌, ℕ, List, []}
 use Rattle.lq_tree.specs.declared.place.Place.{Place}
 use Rattle.lq_meaning.specs.Ending.{Strayed, Spent, Outcome}
 use Rattle.lq_meaning.specs.Meaning.{sequential}
@@ -22,4 +22,4 @@ PicksDoNotMatter =
     (name : List ℕ) (s : Slice) (fuel words : ℕ) (picks : List ℕ) →
     IsAccepted s →
     ((at : Place) → (run_slice fuel words picks s).ending ≢ Strayed at)
-    × Agree (run_slice fuel words picks s) (sequential fuel words (program name s))
+    × Agree (run_slice fuel words picks s) (sequential fuel words (program name s) [])

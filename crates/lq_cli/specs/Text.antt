@@ -1,4 +1,5 @@
--- The trees that sources have, and the answers to sources that have none (docs/COMMANDS.md, "Replay today").
+-- The trees that sources have, which sources are of the slice, and the answers to those that are not
+-- (docs/COMMANDS.md, "Replay today").
 use Rattle.std.specs.Prelude.{◌≡◌, ℕ, ◌<◌, ◌≤◌, ◌==◌, if◌then◌else◌, None, Some, List, ◌++◌, codes, decimal}
 use Rattle.lq_tree.specs.declared.program.Program.{Program}
 use Rattle.lq_tree.specs.declared.limit.Limit.{Limit}
@@ -12,7 +13,10 @@ use Rattle.lq_parser.specs.Spelling.{Spells, HasNoAnnotation, IsFirstAnnotation,
 use Rattle.lq_names.specs.declared.fault.Fault.{Fault}
 use Rattle.lq_names.specs.Counts.{counts, first_passed}
 use Rattle.lq_names.specs.Broken.{IsBroken, IsLeastBroken}
+use Rattle.lq_cli.specs.declared.slice.Slice.{Slice}
 use Rattle.lq_cli.specs.Lines.{line, limit}
+use Rattle.lq_cli.specs.Source.{program}
+use Rattle.lq_cli.specs.Parentheses.{HasSliceParentheses}
 
 -- the tokens of a text, which keep the limits of their shape
 pub record Shaped (text : List ℕ) (tokens : List Token) : Type 0 where
@@ -39,6 +43,11 @@ pub record Reads (text : List ℕ) (tree : Program) : Type 0 where
   pub counted : IsCounted tree
   pub named : IsNamed tree
 
+-- a text with this tree is a source of the slice: the tree is that of a slice over an array of this name, and the parentheses stand as in the slice
+pub record IsOfSlice (text : List ℕ) (tree : Program) (name : List ℕ) (s : Slice) : Type 0 where
+  pub is : tree ≡ program name s
+  pub parentheses : HasSliceParentheses text
+
 -- the name of a count by its number in the table of limits
 abbrev pub count_name : ℕ → List ℕ
 count_name which =
@@ -49,7 +58,7 @@ count_name which =
     else if which == 14 then codes "branches"
     else codes "arms"
 
--- the answers to a text that has no such tree
+-- the answers to a text that is no source of the slice
 pub data TextAnswers (text : List ℕ) : ℕ → List ℕ → Type 0 where
   lexical : (at : ℕ) → IsFirstFault text at → TextAnswers text 3 (line (codes "lexical fault at " ++ place_text (place_at text at)))
   brackets : (tokens : List Token) → Tokens text tokens → 64 < most_open (texts_of text tokens) →
@@ -64,3 +73,5 @@ pub data TextAnswers (text : List ℕ) : ℕ → List ℕ → Type 0 where
       TextAnswers text 7 (limit (count_name l.which) l.found l.allowed)
   names : (tree : Program) (fault : Fault) → HasTree text tree → IsCounted tree → IsLeastBroken tree fault →
       TextAnswers text 4 (line (codes "names N" ++ decimal fault.rule ++ codes " at " ++ place_text fault.at))
+  outside : (tree : Program) → Reads text tree → ((name : List ℕ) (s : Slice) → ¬ IsOfSlice text tree name s) →
+      TextAnswers text 3 (line (codes "outside the slice"))

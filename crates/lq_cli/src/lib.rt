@@ -6,6 +6,7 @@ mod command;
 mod entry;
 mod literal;
 mod machine;
+mod parentheses;
 mod ready;
 mod run;
 mod same;

@@ -9,8 +9,7 @@ use crate::answer::{Answer, Quantity};
 use crate::command::read_command;
 use crate::literal::literal_fault;
 use crate::slice::Slice;
-use crate::slicing::slice_of;
-use crate::text::read_tree;
+use crate::text::read_slice;
 use lq_shelf::{Fetch, Shelf};
 use lq_text::{NumbersFault, read_numbers_from};
 use std::alloc::{AllocError, Global};
@@ -129,10 +128,7 @@ pub fn prepare<'a, H: Shelf>(
 {
     let replay = read_command(words).ok_or(Stop::Told(Answer::BadWords))?;
     let text = fetch(shelf, replay.source, Quantity::SourceBytes)?;
-    let tree = read_tree(alloc, &text)?;
-    let Some(slice) = slice_of(alloc, &tree)? else {
-        return Err(Stop::Told(Answer::Outside));
-    };
+    let slice = read_slice(alloc, &text)?;
     let picks = fetch_picks(alloc, shelf, replay.picks)?;
     if let Some(at) = literal_fault(&slice) {
         return Err(Stop::Told(Answer::Literal(at)));

@@ -26,6 +26,12 @@ const NO_STORE: &str =
 const UNCLOSED: &str =
     "int main(void) {\n  int *a = calloc(2, sizeof(int));\n  cobegin {\n    { a[0] = 1; }\n    { a[1] = 2; }\n  }\n  print(a[0]);\n  print(a[1]);\n  return 0;\n";
 
+const NO_VOID: &str =
+    "int main() {\n  int *a = calloc(2, sizeof(int));\n  cobegin {\n    { a[0] = 1; }\n    { a[1] = 2; }\n  }\n  print(a[0]);\n  print(a[1]);\n  return 0;\n}\n";
+
+const PARENTHESISED_INDEX: &str =
+    "int main(void) {\n  int *a = calloc(2, sizeof(int));\n  cobegin {\n    { a[0] = 1; }\n    { a[(1)] = 2; }\n  }\n  print(a[0]);\n  print(a[1]);\n  return 0;\n}\n";
+
 // A replay of a source, and the answer that is due.
 #[derive(Clone, Copy)]
 struct Case {
@@ -103,6 +109,15 @@ fn replays_by_the_table(rt: HostRuntime) -> Result<(), Fail> {
         replayed(NO_STORE, "", "7", "100", 3, "syntax fault near 4:12\n"),
         replayed(
             "int main(void) { return 0; }",
+            "",
+            "7",
+            "100",
+            3,
+            "outside the slice\n",
+        ),
+        replayed(NO_VOID, "", "7", "100", 3, "outside the slice\n"),
+        replayed(
+            PARENTHESISED_INDEX,
             "",
             "7",
             "100",

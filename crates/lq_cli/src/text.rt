@@ -2,12 +2,15 @@ ghost use Rattle.std.specs.Prelude.{◌≡◌, ◌≤◌, ⊤, length, IfOk, Mat
 ghost use Rattle.lq_lexer.specs.Tokens.{Tokens};
 ghost use Rattle.lq_cli.specs.Answer.{quantity_numbered};
 ghost use Rattle.lq_cli.specs.Liquid.{most_source_bytes};
-ghost use Rattle.lq_cli.specs.Ready.{OnTold, TellsText};
+ghost use Rattle.lq_cli.specs.Ready.{HasSlice, OnTold, TellsText};
 ghost use Rattle.lq_cli.specs.Text.{Shaped, HasTree, IsCounted, IsNamed, Reads};
 
 use crate::answer::{Answer, Quantity};
+use crate::parentheses::stand_as_in_slice;
 use crate::ready::Stop;
-use lq_lexer::laws::tokens_lie_in_text;
+use crate::slice::Slice;
+use crate::slicing::slice_of;
+use lq_lexer::laws::{tokens_are_one, tokens_lie_in_text};
 use lq_lexer::{LexFault, Token, check_shape, lex};
 use lq_names::{NamesFault, check_counts, check_names};
 use lq_parser::{ParseFault, parse};
@@ -100,16 +103,26 @@ fn test_tree<'a>(alloc: Global, text: &[u8], tree: &Program) -> Result<(), Stop<
     test_names(alloc, text, tree)
 }
 
-/// The tree that a text spells, where it keeps the limits of counts and the name rules, or why
-/// there is none.
-pub fn read_tree<'a>(alloc: Global, text: &[u8]) -> Result<Program, Stop<'a>>
+// The tokens of a text, where they keep the limits of their shape, or why there are none.
+fn read_tokens<'a>(alloc: Global, text: &[u8]) -> Result<Vec<Token>, Stop<'a>>
     requires { length text.now ≤ most_source_bytes }
-    ensures tree { IfOk result (Reads text.now) }
+    ensures shaped { IfOk result (λ tokens. Shaped text.now tokens.items) }
     ensures told { MatchResult result (λ _. ⊤) (λ stop. OnTold stop (TellsText text.now)) }
 {
     let tokens = tokens_of(alloc, text)?;
     test_shape(text, &tokens)?;
-    let tree = tree_of(alloc, text, &tokens)?;
+    Ok(tokens)
+}
+
+// The tree that the tokens of a text spell, where it keeps the limits of counts and the name rules, or why there is
+// none.
+fn read_tree<'a>(alloc: Global, text: &[u8], tokens: &[Token]) -> Result<Program, Stop<'a>>
+    requires short { length text.now ≤ most_source_bytes }
+    requires shaped { Shaped text.now tokens.now }
+    ensures tree { IfOk result (Reads text.now) }
+    ensures told { MatchResult result (λ _. ⊤) (λ stop. OnTold stop (TellsText text.now)) }
+{
+    let tree = tree_of(alloc, text, tokens)?;
     match test_tree(alloc, text, &tree) {
         Ok(()) => Ok(tree),
         Err(stop) => {
@@ -117,4 +130,37 @@ pub fn read_tree<'a>(alloc: Global, text: &[u8]) -> Result<Program, Stop<'a>>
             Err(stop)
         }
     }
+}
+
+// The slice of a text with these tokens and this tree.
+fn slice_within<'a>(
+    alloc: Global,
+    text: &[u8],
+    tokens: &[Token],
+    tree: &Program,
+) -> Result<Slice, Stop<'a>>
+    requires tokens { Tokens text.now tokens.now }
+    requires tree { Reads text.now tree.now }
+    ensures slice { IfOk result (HasSlice text.now) }
+    ensures told { MatchResult result (λ _. ⊤) (λ stop. OnTold stop (TellsText text.now)) }
+{
+    // So the parentheses of these tokens are those of the text.
+    tokens_are_one();
+    if !stand_as_in_slice(text, tokens) {
+        return Err(Stop::Told(Answer::Outside));
+    }
+    let slice = slice_of(alloc, tree)?;
+    slice.ok_or(Stop::Told(Answer::Outside))
+}
+
+/// The slice whose source a text is (docs/LANGUAGE.md, "The slice"), or why it is none: it has no tree, its tree
+/// breaks a limit of counts or a name rule, or it is outside the slice.
+pub fn read_slice<'a>(alloc: Global, text: &[u8]) -> Result<Slice, Stop<'a>>
+    requires { length text.now ≤ most_source_bytes }
+    ensures slice { IfOk result (HasSlice text.now) }
+    ensures told { MatchResult result (λ _. ⊤) (λ stop. OnTold stop (TellsText text.now)) }
+{
+    let tokens = read_tokens(alloc, text)?;
+    let tree = read_tree(alloc, text, &tokens)?;
+    slice_within(alloc, text, &tokens, &tree)
 }

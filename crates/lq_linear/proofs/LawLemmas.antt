@@ -109,7 +109,7 @@ dividend_up : (v : ℕ → ℤ) (e : Linear) → Meets v (not_negative e) → po
 dividend_up v e h = omega (arith, ints, value-times v (negsuc 0) e.terms, h)
 
 -- the rows of an item that is met are met, the third where the dividend isn't negative
-item_row : (v : ℕ → ℤ) (item : Item) (place : ℕ) → MeetsItem v item → place < length (rows_of item) → (place ≡ 2 → Meets v (dividend_row item)) → Meets v (get_or (rows_of item) place nothing)
+pub item_row : (v : ℕ → ℤ) (item : Item) (place : ℕ) → MeetsItem v item → place < length (rows_of item) → (place ≡ 2 → Meets v (dividend_row item)) → Meets v (get_or (rows_of item) place nothing)
 item_row v (Holds row) zero m l h = m
 item_row v (Holds row) (suc place) m l h = absurd (omega arith)
 item_row v (Division q e d) zero m l h =

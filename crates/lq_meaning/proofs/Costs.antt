@@ -2,7 +2,7 @@
 use Rattle.std.proofs.Common.{◌≡◌, ℕ, zero, suc, ◌+◌, ◌*◌, ℤ, pos, negsuc, nat_lt, Option, None, Some, refl}
 use Rattle.std.proofs.lemmas.Bool.{cond_both}
 use Rattle.lq_meaning.specs.Memory.{Address, reach}
-use Rattle.lq_meaning.specs.World.{World, Action, Allocate, Load, Store, Print, Acted, Answers, Traps, Strays, counted, allocated, take_words, loaded, stored, act}
+use Rattle.lq_meaning.specs.World.{World, Action, Allocate, Load, Store, Print, Enter, Test, Start, Acted, Answers, Traps, Strays, counted, allocated, take_words, loaded, stored, entered, act}
 
 -- the world that an action leaves
 abbrev pub left_by : Acted → World
@@ -30,9 +30,17 @@ stored-cost : (w : World) (r : Option Address) (word : ℤ) → (left_by (stored
 stored-cost w None word = refl
 stored-cost w (Some a) word = refl
 
+-- nor a call
+entered-cost : (w : World) (more : ℕ) → (left_by (entered w more)).cost ≡ w.cost
+entered-cost w zero = refl
+entered-cost w (suc more) = refl
+
 -- the world that an action leaves has cost 1 more
 pub act-cost : (action : Action) (w : World) → (left_by (act action w)).cost ≡ w.cost + 1
 act-cost (Allocate count fields) w = allocated-cost (counted w) count fields
 act-cost (Load p i field) w = loaded-cost (counted w) (reach w.memory p i field)
 act-cost (Store p i field word) w = stored-cost (counted w) (reach w.memory p i field) word
 act-cost (Print number) w = refl
+act-cost (Enter more) w = entered-cost (counted w) more
+act-cost Test w = refl
+act-cost Start w = refl

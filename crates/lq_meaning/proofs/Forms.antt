@@ -10,7 +10,8 @@ use Rattle.lq_tree.specs.declared.stmt.StmtKind.TheBlock.{hidden-the_row-Stmt-0}
 use Rattle.lq_tree.specs.declared.stmt.Stmt.{Stmt}
 use Rattle.lq_meaning.specs.World.{World, Allocate, Load, Store as StoreWord}
 use Rattle.lq_meaning.specs.Ending.{Trap, Unruled}
-use Rattle.lq_meaning.specs.Meaning.{Context, Locals, Evaluated, Stops, with_word_of, due, eval, eval_row, fields_of, store_into, Executed, exec, exec_row, exec_all, then_do, outside, after_branch, joined, branches}
+use Rattle.lq_meaning.specs.Control.{Evaluated, Stops, with_word_of, due, Executed, then_do, after_branch, joined}
+use Rattle.lq_meaning.specs.Meaning.{Context, Locals, eval, eval_row, fields_of, store_into, exec, exec_row, exec_all, outside, branches}
 
 -- the first expression of a list, which is the one of a box
 abbrev eval_first : Context → Place → Locals → List Expr → World → Evaluated
@@ -31,19 +32,19 @@ eval_row-boxed c at locals e w =
 -- a load by index: the base, the index, the load
 pub eval-index : (c : Context) (at : Place) (locals : Locals) (base i : Expr) (w : World) →
     eval c at locals (Index base i) w
-    ≡ with_word_of (eval c at locals base w) (λ pointer w. with_word_of (eval c at locals i w) (λ i w. due c at (Load pointer i 0) w))
+    ≡ with_word_of (eval c at locals base w) (λ pointer w. with_word_of (eval c at locals i w) (λ i w. due c.fuel at (Load pointer i 0) w))
 eval-index c at locals base i w = simp eval_row-boxed
 
 -- a calloc: the count, the allocation
 pub eval-calloc : (c : Context) (at : Place) (locals : Locals) (count : Expr) (type : CType) (w : World) →
     eval c at locals (Calloc count type) w
-    ≡ with_word_of (eval c at locals count w) (λ n w. due c at (Allocate n (fields_of c.structs type)) w)
+    ≡ with_word_of (eval c at locals count w) (λ n w. due c.fuel at (Allocate n (fields_of c.program.structs type)) w)
 eval-calloc c at locals count type w = simp eval_row-boxed
 
 -- a store by index: the base, the index, the value, the store
 pub store_into-index : (c : Context) (at : Place) (locals : Locals) (base i value : Expr) (w : World) →
     store_into c at locals (Index base i) value w
-    ≡ with_word_of (eval c at locals base w) (λ pointer w. with_word_of (eval c at locals i w) (λ i w. with_word_of (eval c at locals value w) (λ word w. due c at (StoreWord pointer i 0 word) w)))
+    ≡ with_word_of (eval c at locals base w) (λ pointer w. with_word_of (eval c at locals i w) (λ i w. with_word_of (eval c at locals value w) (λ word w. due c.fuel at (StoreWord pointer i 0 word) w)))
 store_into-index c at locals base i value w = simp eval_row-boxed
 
 -- one statement after another, over the list of a row
@@ -52,7 +53,7 @@ exec_row-items c end_of-Stmt = refl
 exec_row-items c (more_of-Stmt at kind rest) = λ i locals w. then_do (exec c at kind locals w) (exec_row-items c rest i)
 
 -- one branch after another, over a list of statements
-abbrev pub all_branches : Context → List Stmt → Locals → Option Trap → World → Executed
+abbrev pub all_branches : Context → List Stmt → Locals → Option Trap → World → Executed Locals
 all_branches c [] locals first w = joined locals first w
 all_branches c (s ∷ blocks) locals first w = after_branch (exec c s.at s.kind locals w) first (all_branches c blocks locals)
 

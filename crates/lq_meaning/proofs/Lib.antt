@@ -3,3 +3,9 @@ pub mod Costs
 pub mod Forms
 pub mod Blocks
 pub mod Apart
+pub mod Kept
+pub mod RunKept
+pub mod Growing
+pub mod Lasting
+pub mod Turns
+pub mod worked

@@ -2,6 +2,11 @@ pub mod Word
 pub mod Memory
 pub mod World
 pub mod Ending
+pub mod Operators
+pub mod Control
+pub mod Entry
 pub mod Meaning
 pub mod End
 pub mod Words
+pub mod PlainMeaning
+pub mod Laws

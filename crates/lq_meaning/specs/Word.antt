@@ -1,10 +1,13 @@
 -- Words and pointer words (docs/LANGUAGE.md, "Words").
-use Rattle.std.specs.Prelude.{ℕ, ◌+◌, ◌*◌, ◌/◌, ◌%◌, ◌^◌, ℤ, pos, negsuc, FitsSigned}
+use Rattle.std.specs.Prelude.{ℕ, ◌+◌, ◌*◌, ◌/◌, ◌%◌, ◌^◌, Bool, ◌&&◌, ℤ, pos, neg_ℤ, negsuc, int_lt, int_le, FitsSigned}
 use Rattle.std.specs.Int.{w64}
 
 -- a word is a whole number from -2^63 to 2^63 - 1
 abbrev pub IsWord : ℤ → Type 0
 IsWord z = FitsSigned w64 z
+
+abbrev pub is_word : ℤ → Bool
+is_word z = int_le (neg_ℤ (pos (2 ^ 63))) z && int_lt z (pos (2 ^ 63))
 
 -- null is the pointer word 0
 abbrev pub null : ℤ

@@ -1,7 +1,7 @@
 -- What the actions of a program find and leave (docs/LANGUAGE.md, "Costs" and "Traps").
 use Rattle.std.specs.Prelude.{ℕ, zero, suc, ◌+◌, ◌-◌, ◌*◌, ℤ, pos, negsuc, nat_lt, if◌then◌else◌, List, [], ◌∷◌, ◌++◌, length, Option, None, Some}
 use Rattle.lq_tree.specs.declared.trap.TrapKind.{TrapKind}
-use Rattle.lq_tree.specs.declared.trap.TrapKind.TheVariants.{Count, Words}
+use Rattle.lq_tree.specs.declared.trap.TrapKind.TheVariants.{Count, Words, Depth}
 use Rattle.lq_meaning.specs.Word.{pointer}
 use Rattle.lq_meaning.specs.Memory.{Blocks, Address, reach, word_at, with_word, with_block}
 
@@ -19,6 +19,12 @@ pub data Action : Type 0 where
   Load : (pointer index : ℤ) → (field : ℕ) → Action
   Store : (pointer index : ℤ) → (field : ℕ) → (word : ℤ) → Action
   Print : (number : ℤ) → Action
+  -- a call, where so many more functions may become active
+  Enter : (more : ℕ) → Action
+  -- the test of a loop
+  Test : Action
+  -- the start of an iteration of a `foreach`
+  Start : Action
 
 -- what comes of an action: a word, a trap or a stray
 pub data Acted : Type 0 where
@@ -54,9 +60,17 @@ stored w (Some a) word = Answers word (record { memory = with_word w.memory a wo
 abbrev pub printed : World → ℤ → Acted
 printed w number = Answers number (record { memory = w.memory; left = w.left; cost = w.cost; printed = w.printed ++ number ∷ [] })
 
+-- a call is one function too many where no more may become active
+abbrev pub entered : World → ℕ → Acted
+entered w zero = Traps Depth w
+entered w (suc more) = Answers (pos 0) w
+
 -- what an action does
 abbrev pub act : Action → World → Acted
 act (Allocate count fields) w = allocated (counted w) count fields
 act (Load p index field) w = loaded (counted w) (reach w.memory p index field)
 act (Store p index field word) w = stored (counted w) (reach w.memory p index field) word
 act (Print number) w = printed (counted w) number
+act (Enter more) w = entered (counted w) more
+act Test w = Answers (pos 0) (counted w)
+act Start w = Answers (pos 0) (counted w)

@@ -3,11 +3,13 @@
 #![tactic(auto)]
 
 mod end;
+mod laws;
 mod memory;
 #[cfg(test)]
 mod tests;
 mod words;
 
 pub use end::End;
+pub use laws::{bounds_do_not_matter, ended_runs_keep, runs_only_grow};
 pub use memory::{Block, Memory};
 pub use words::Words;

@@ -13,3 +13,4 @@ pub mod ProgramLaws
 pub mod LeastFaults
 pub mod Telling
 pub mod CountLaws
+pub mod TypeLaws

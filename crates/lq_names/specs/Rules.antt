@@ -14,6 +14,7 @@ use Rattle.lq_tree.specs.declared.program.Program.{Program}
 use Rattle.lq_tree.specs.declared.program.Func.{Func}
 use Rattle.lq_tree.specs.declared.program.Param.{Param}
 use Rattle.lq_names.specs.Scopes.{Site, Ty, Number, Pointer, Element, Whole, Nothing, declared, same, is_in_scope, function_of, field_of}
+pub use Rattle.lq_tree.specs.Types.{same_base}
 use Rattle.lq_names.specs.Types.{type_of, is_number, is_pointer, element_of, is_known}
 
 -- a node of an expression, with its parts
@@ -27,12 +28,6 @@ is_literal_zero _ = false
 
 abbrev pub is_zero : Expr → Bool
 is_zero e = is_literal_zero (out-Expr e)
-
--- two types are made of the same
-abbrev pub same_base : Base → Base → Bool
-same_base Int Int = true
-same_base (Struct a) (Struct b) = same a b
-same_base _ _ = false
 
 -- an expression of this type can't be what is wanted; the literal 0 may stand for any pointer
 abbrev pub disagrees : (wanted given : Ty) → (is_literal_zero : Bool) → Bool

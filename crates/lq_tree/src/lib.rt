@@ -7,6 +7,7 @@ mod expr;
 mod limit;
 mod name;
 mod place;
+mod plain;
 mod program;
 mod stmt;
 #[cfg(test)]
@@ -18,6 +19,7 @@ pub use expr::{Base, BinOp, CType, Expr};
 pub use limit::Limit;
 pub use name::Name;
 pub use place::{Place, place_of};
+pub use plain::{Branch, PExpr, PFunc, PKind, PProgram, PStmt, Slot};
 pub use program::{Func, Param, Program, StructDef};
 pub use sqlite_items::Items;
 pub use stmt::{Arm, Stmt, StmtKind};

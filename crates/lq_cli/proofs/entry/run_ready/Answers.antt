@@ -2,7 +2,7 @@ use Rattle.std.proofs.Common.{◌∙◌, [], inr, ap, sym, subst}
 use Rattle.lq_shelf.specs.Sink.{Appends, AppendsPrefix}
 use Rattle.lq_meaning.specs.Ending.{Outcome}
 use Rattle.std.specs.Prelude.{codes}
-use Rattle.lq_meaning.specs.Meaning.{start}
+use Rattle.lq_meaning.specs.Entry.{start}
 use Rattle.lq_cli.specs.Lines.{line, number_lines, trap}
 use Rattle.lq_cli.specs.Liquid.{trapped, spent}
 use Rattle.lq_cli.specs.Run.{task_of, run_slice}

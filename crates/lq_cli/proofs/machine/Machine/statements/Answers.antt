@@ -3,7 +3,7 @@ use Rattle.std.specs.Prelude.{All}
 use Rattle.std.proofs.lemmas.List.Elements.{All-same}
 use Rattle.lq_shelf.proofs.Pieces.{Appends-nil, AppendsPrefix-none}
 use Rattle.lq_cli.specs.declared.slice.Store.{Store}
-use Rattle.lq_cli.specs.Task.{Task, Ended}
+use Rattle.lq_machine.specs.Task.{Task, Ended}
 use Rattle.lq_cli.specs.Run.{blocks_then, steps_then}
 use Rattle.lq_cli.specs.Machine.{array, array_len, StepWithin, world_of, rest_of_run}
 use Rattle.lq_cli.specs.Lines.{number_lines}

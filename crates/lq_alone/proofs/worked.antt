@@ -1,0 +1,5 @@
+-- Worked programs, whose branches are computed alone.
+pub mod AloneWords
+pub mod CleanRuns
+pub mod AsInOrder
+pub mod Accesses

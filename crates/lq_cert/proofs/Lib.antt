@@ -1,0 +1,17 @@
+pub mod PlaceLemmas
+pub mod RisingLemmas
+pub mod UseLemmas
+pub mod SoundLemmas
+pub mod NarrowLemmas
+pub mod FoundLemmas
+pub mod NumeralLemmas
+pub mod SplitLemmas
+pub mod NumbersLemmas
+pub mod NameLemmas
+pub mod AtomLemmas
+pub mod OrderLemmas
+pub mod InkLemmas
+pub mod SpellingLemmas
+pub mod ReadingLemmas
+pub mod WritingLemmas
+pub mod FileLemmas

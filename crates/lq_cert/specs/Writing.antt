@@ -1,0 +1,7 @@
+-- What writers append. Helpers of private functions.
+use Rattle.std.specs.Prelude.{ℕ, List, ◌∷◌}
+use Rattle.std.specs.List.{flat_map}
+
+-- words with a space before each
+abbrev pub spaced : List (List ℕ) → List ℕ
+spaced words = flat_map (λ word. 32 ∷ word) words

@@ -1,0 +1,94 @@
+//! Proof files read and written.
+
+ghost use Rattle.std.specs.Prelude.{◌≡◌, ℕ, List, IfOk, IsErr, IsErrOf, IsOkUnless};
+ghost use Rattle.std.specs.List.{AllByRecursion};
+ghost use Rattle.lq_cert.specs.Line.{IsLine};
+ghost use Rattle.lq_cert.specs.declared.line.Line.{Line as LineValue};
+ghost use Rattle.lq_cert.specs.ProofFile.{IsProofText, IsFirstBadLine};
+
+use crate::line::Line;
+use crate::reading::read_line;
+use crate::split::split_once;
+use crate::writing::put_line;
+use sqlite_items::Items;
+use std::alloc::{AllocError, Global};
+use std::marker::Model;
+use thiserror::Error;
+
+/// The lines of a proof file, in whatever order. Contracts see their list.
+#[derive(Debug, Drop)]
+pub struct Proof {
+    pub lines: Items<Line>,
+}
+
+impl Model for Proof {
+    ghost use Rattle.std.specs.Prelude.{List};
+    ghost use Rattle.lq_cert.specs.declared.line.Line.{Line};
+
+    ghost Value = { List Line };
+
+    ghost view = { λ p. p.lines };
+}
+
+/// Why a proof file was not read.
+#[derive(Debug, Drop, Error)]
+pub enum ProofFault {
+    /// The number, from 1, of the first line that is ill-formed, or of the last line where its line
+    /// feed is missing.
+    #[error("bad proof entry {entry}")]
+    BadProof { entry: u64 },
+    /// Memory ran out.
+    #[error("out of memory")]
+    NoMemory,
+}
+
+impl From<AllocError> for ProofFault {
+    ghost use Rattle.lq_cert.specs.declared.proof_file.ProofFault.TheVariants.{NoMemory};
+
+    ghost from_gives = { λ _ fault. fault ≡ NoMemory };
+
+    fn from(_failed: AllocError) -> ProofFault {
+        ProofFault::NoMemory
+    }
+}
+
+/// The lines of a proof file, each tested by itself, or its first bad line
+/// (docs/PROOF-FILE.md, "Lines"). That they stand in the right order isn't tested: so an empty text
+/// reads as no lines.
+pub fn read_proof(alloc: Global, text: &[u8]) -> Result<Proof, ProofFault>
+    ensures proof { IfOk result (IsProofText text.now) }
+    ensures bad { (entry : ℕ) → IsErrOf result (ProofFault.BadProof entry) → IsFirstBadLine text.now entry }
+
+    // A text of lines is refused only for want of memory, and one with a bad line never passes.
+    ensures reads { (lines : List LineValue) → IsProofText text.now lines → IsOkUnless result ProofFault.NoMemory }
+    ensures refuses { (entry : ℕ) → IsFirstBadLine text.now entry → IsErr result }
+{
+    let mut lines = Items::new(alloc);
+    let mut rest = text;
+    let mut entry = 0;
+    while !rest.is_empty() {
+        entry += 1;
+        let Some((line, after)) = split_once(rest, b'\n') else {
+            return Err(ProofFault::BadProof { entry });
+        };
+        let Some(line) = read_line(alloc, line)? else {
+            return Err(ProofFault::BadProof { entry });
+        };
+        lines.push(line)?;
+        rest = after;
+    }
+    Ok(Proof { lines })
+}
+
+/// The text of a proof file (docs/PROOF-FILE.md, "Lines").
+pub fn write_proof(alloc: Global, proof: &Proof) -> Result<Vec<u8>, AllocError>
+    requires { AllByRecursion IsLine proof.now }
+    ensures { IfOk result (λ bytes. IsProofText bytes.items proof.now) }
+{
+    let mut out = Vec::new(alloc);
+    for line in proof.lines.as_slice() {
+        put_line(&mut out, line)?;
+        out.push(b'\n')?;
+    }
+    Ok(out)
+}

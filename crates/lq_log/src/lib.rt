@@ -1,0 +1,12 @@
+//! The log of a replay: its accesses, and which of them race.
+#![tactic(auto)]
+
+mod entry;
+mod laws;
+mod race;
+#[cfg(test)]
+mod tests;
+
+pub use entry::{Entry, Path};
+pub use laws::ordered_or_unordered;
+pub use race::first_race;

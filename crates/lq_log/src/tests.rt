@@ -1,0 +1,138 @@
+use crate::{Entry, Path, first_race};
+use lq_tree::Place;
+use std::alloc::{AllocError, Global};
+use std::test::Fail;
+
+/// A block, an element and a field.
+type Address = (u32, u32, u32);
+
+/// The path, whether it is a store, and what is accessed.
+type Access = (&'static [u64], bool, Address);
+
+const LOAD: bool = false;
+
+const STORE: bool = true;
+
+const FIRST: Address = (1, 0, 0);
+
+const SECOND: Address = (1, 1, 0);
+
+const OTHER_FIELD: Address = (1, 0, 1);
+
+const OTHER_BLOCK: Address = (2, 0, 0);
+
+fn log_of(alloc: Global, accesses: &[Access]) -> Result<Vec<Entry>, AllocError> {
+    let mut log = Vec::new(alloc);
+    for (path, write, (block, element, field)) in accesses {
+        log.push(Entry {
+            path: Path::from_slice(alloc, path)?,
+            write: *write,
+            block: *block,
+            element: *element,
+            field: *field,
+            at: Place { line: 1, col: 1 },
+        })?;
+    }
+    Ok(log)
+}
+
+type Race = Option<(usize, usize)>;
+
+fn race_in(alloc: Global, accesses: &[Access]) -> Result<Race, AllocError> {
+    first_race(alloc, log_of(alloc, accesses)?.as_slice())
+}
+
+#[test]
+fn tells_the_least_race(rt: HostRuntime) -> Result<(), Fail> {
+    let cases: [(&str, &[Access], Race); 4] = [
+        (
+            "the lower half is one element too long",
+            &[
+                (&[0, 0, 0], STORE, FIRST),
+                (&[0, 0, 0], STORE, SECOND),
+                (&[0, 1, 0], STORE, SECOND),
+                (&[1], LOAD, FIRST),
+                (&[1], LOAD, SECOND),
+            ],
+            Some((1, 2)),
+        ),
+        (
+            "the second entry that comes first",
+            &[
+                (&[0, 0, 0], STORE, FIRST),
+                (&[0, 0, 0], STORE, SECOND),
+                (&[0, 1, 0], STORE, SECOND),
+                (&[0, 1, 0], STORE, FIRST),
+            ],
+            Some((1, 2)),
+        ),
+        (
+            "the first entry that comes first",
+            &[
+                (&[0, 0, 0], LOAD, FIRST),
+                (&[0, 0, 0], STORE, FIRST),
+                (&[0, 1, 0], STORE, FIRST),
+            ],
+            Some((0, 2)),
+        ),
+        (
+            "a branch of a fork within a branch",
+            &[(&[0, 0, 0, 1, 0], STORE, FIRST), (&[0, 1, 0], LOAD, FIRST)],
+            Some((0, 1)),
+        ),
+    ];
+    for (name, accesses, want) in cases {
+        assert_eq!(rt; race_in(rt.alloc(), accesses)?, want, "{name}");
+    }
+    Ok(())
+}
+
+#[test]
+fn tells_no_race(rt: HostRuntime) -> Result<(), Fail> {
+    let cases: [(&str, &[Access], Race); 7] = [
+        ("no entry", &[], None),
+        (
+            "each half for itself",
+            &[
+                (&[0, 0, 0], STORE, FIRST),
+                (&[0, 1, 0], STORE, SECOND),
+                (&[1], LOAD, FIRST),
+                (&[1], LOAD, SECOND),
+            ],
+            None,
+        ),
+        (
+            "two loads",
+            &[(&[0, 0, 0], LOAD, FIRST), (&[0, 1, 0], LOAD, FIRST)],
+            None,
+        ),
+        (
+            "behind the fork",
+            &[(&[0, 0, 0], STORE, FIRST), (&[1], STORE, FIRST)],
+            None,
+        ),
+        (
+            "a branch of a later fork",
+            &[(&[0, 0, 0], STORE, FIRST), (&[1, 1, 0], STORE, FIRST)],
+            None,
+        ),
+        (
+            "behind a fork within the branch",
+            &[(&[0, 0, 0, 1, 0], STORE, FIRST), (&[0, 0, 1], STORE, FIRST)],
+            None,
+        ),
+        (
+            "another field, another block",
+            &[
+                (&[0, 0, 0], STORE, FIRST),
+                (&[0, 1, 0], STORE, OTHER_FIELD),
+                (&[0, 2, 0], STORE, OTHER_BLOCK),
+            ],
+            None,
+        ),
+    ];
+    for (name, accesses, want) in cases {
+        assert_eq!(rt; race_in(rt.alloc(), accesses)?, want, "{name}");
+    }
+    Ok(())
+}

@@ -1,0 +1,4 @@
+pub mod Task
+pub mod Run
+pub mod Behaviour
+pub mod Replay

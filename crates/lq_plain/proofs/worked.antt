@@ -1,0 +1,6 @@
+-- Worked programs, whose plain form is computed.
+pub mod Worded
+pub mod Programs
+pub mod Forms
+pub mod Lines
+pub mod Factors

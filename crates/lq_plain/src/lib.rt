@@ -1,0 +1,6 @@
+//! The plain form of a program, in which every expression is pure: its definition, and what follows from it.
+#![tactic(auto)]
+
+mod laws;
+
+pub use laws::functions_stay;
