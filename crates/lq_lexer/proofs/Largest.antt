@@ -1,10 +1,11 @@
 -- The counts of a shape are the largest there are.
-use Rattle.std.proofs.Common.{◌≡◌, ℕ, zero, suc, ◌+◌, ◌-◌, ◌<◌, ◌≤◌, Bool, List, ◌++◌, length, take, drop, reverse, refl, sym, ap, ◌∙◌, arith, append_assoc, inl, inr}
+use Rattle.std.proofs.Common.{◌≡◌, ℕ, zero, suc, ◌+◌, ◌-◌, ◌<◌, ◌≤◌, Bool, List, ◌++◌, length, get_or, take, drop, reverse, [], refl, sym, ap, ◌∙◌, arith, add-one, append_assoc, inl, inr}
+use Rattle.std.specs.Prelude.{fold}
 use Rattle.std.specs.List.{AllPass, suffix_len, prefix_len, take_while}
-use Rattle.std.proofs.lemmas.Bool.{cases_lt}
+use Rattle.std.proofs.lemmas.Bool.{cases_lt, cases_Bool, cond-true, cond-false}
 use Rattle.std.proofs.lemmas.List.{length-append, take_at, take-append-drop, reverse-append, reverse-reverse, length-reverse, get_or-reverse, length-take-le}
-use Rattle.std.proofs.lemmas.List.Sums.{prefix_len-le-length, AllPass-from_list_all, list_all-from_AllPass}
-use Rattle.lq_lexer.specs.Shape.{open_behind, most_open, is_in_stretch, longest_stretch, largest, IsMostOpen, IsLongestStretch}
+use Rattle.std.proofs.lemmas.List.Sums.{fold_more, suffix_len-take_yes, suffix_len-take_no, prefix_len-le-length, AllPass-from_list_all, list_all-from_AllPass}
+use Rattle.lq_lexer.specs.Shape.{open_behind, most_open, is_in_stretch, stretch_after, longest_stretch, largest, IsMostOpen, IsLongestStretch}
 use Rattle.lq_lexer.proofs.Pieces.{prefix_len-append, list_all-take_while}
 
 largest_each : (f : ℕ → ℕ) (n k : ℕ) → k ≤ n → f k ≤ largest f n
@@ -38,6 +39,24 @@ most_open_is_most tokens =
 
 -- ---- stretches
 
+stretch_grows : (texts : List (List ℕ)) (i : ℕ) → i < length texts → suffix_len is_in_stretch (take (i + 1) texts) ≡ stretch_after (suffix_len is_in_stretch (take i texts)) (get_or texts i [])
+stretch_grows texts i lt =
+    let last : get_or texts (i + 1 - 1) [] ≡ get_or texts i [] = ap (λ (k : ℕ). get_or texts k []) (omega arith) in
+    let before : take (i + 1 - 1) texts ≡ take i texts = ap (λ (k : ℕ). take k texts) (omega arith) in
+    elim (cases_Bool (is_in_stretch (get_or texts i []))) [
+      | inl has ↦ suffix_len-take_yes is_in_stretch texts (i + 1) [] (omega arith) (omega arith) (ap is_in_stretch last ∙ has) ∙ ap (λ (t : List (List ℕ)). 1 + suffix_len is_in_stretch t) before
+          ∙ omega arith ∙ sym (cond-true (is_in_stretch (get_or texts i [])) (suffix_len is_in_stretch (take i texts) + 1) 0 has)
+      | inr other ↦ suffix_len-take_no is_in_stretch texts (i + 1) [] (omega arith) (omega arith) (ap is_in_stretch last ∙ other) ∙ sym (cond-false (is_in_stretch (get_or texts i [])) (suffix_len is_in_stretch (take i texts) + 1) 0 other)
+    ]
+
+-- the count of the stretch behind the tokens is how many of the last ones it holds
+stretch_counted : (texts : List (List ℕ)) (n : ℕ) → n ≤ length texts → fold stretch_after 0 (take n texts) ≡ suffix_len is_in_stretch (take n texts)
+stretch_counted texts zero le = refl
+stretch_counted texts (suc n) le =
+    let before = stretch_counted texts n (omega arith) in
+    let one : fold stretch_after 0 (take (n + 1) texts) ≡ suffix_len is_in_stretch (take (n + 1) texts) = fold_more stretch_after 0 texts n [] (omega arith) ∙ ap (λ (k : ℕ). stretch_after k (get_or texts n [])) before ∙ sym (stretch_grows texts n (omega arith)) in
+    rw add-one at one
+
 all_reverse : (p : List ℕ → Bool) (a : List (List ℕ)) → AllPass p a → AllPass p (reverse a)
 all_reverse p a h k d lt =
     let inside : k < length a = omega (arith, length-reverse a) in
@@ -67,13 +86,14 @@ last_stretch tokens =
 pub longest_stretch_is_longest : (tokens : List (List ℕ)) → IsLongestStretch tokens (longest_stretch tokens)
 unfolding longest_stretch
 longest_stretch_is_longest tokens =
-    let f : ℕ → ℕ = λ n. suffix_len is_in_stretch (take n tokens) in
+    let f : ℕ → ℕ = λ n. fold stretch_after 0 (take n tokens) in
     let found = largest_some f (length tokens) in
     let last = last_stretch (take found.0 tokens) in
     record {
       each = λ run stretch.
           let n = length stretch.0 + length run in
           let same : take n tokens ≡ stretch.0 ++ run = ap (take n) (stretch.2 ∙ sym (append_assoc stretch.0 run stretch.1)) ∙ take_at (stretch.0 ++ run) stretch.1 n (length-append stretch.0 run) in
-          omega (arith, largest_each f (length tokens) n (omega (arith, ap length stretch.2, length-append stretch.0 (run ++ stretch.1), length-append run stretch.1)), ap (suffix_len is_in_stretch) same, stretch_le stretch.0 run stretch.3);
-      some = (last.1, (last.0, drop found.0 tokens, sym (take-append-drop found.0 tokens) ∙ ap (λ (t : List (List ℕ)). t ++ drop found.0 tokens) last.2 ∙ append_assoc last.0 last.1 (drop found.0 tokens), last.3), last.4 ∙ found.2);
+          let fits : n ≤ length tokens = omega (arith, ap length stretch.2, length-append stretch.0 (run ++ stretch.1), length-append run stretch.1) in
+          omega (arith, largest_each f (length tokens) n fits, stretch_counted tokens n fits, ap (suffix_len is_in_stretch) same, stretch_le stretch.0 run stretch.3);
+      some = (last.1, (last.0, drop found.0 tokens, sym (take-append-drop found.0 tokens) ∙ ap (λ (t : List (List ℕ)). t ++ drop found.0 tokens) last.2 ∙ append_assoc last.0 last.1 (drop found.0 tokens), last.3), last.4 ∙ sym (stretch_counted tokens found.0 found.1) ∙ found.2);
     }

@@ -1,5 +1,3 @@
-pub mod Texts
-pub mod Numbers
 pub mod Close
 pub mod Signs
 pub mod Spelling

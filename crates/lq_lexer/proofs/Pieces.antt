@@ -8,7 +8,8 @@ use Rattle.std.proofs.lemmas.List.{length-append, take_at, drop_at, drop_all, dr
 use Rattle.std.proofs.lemmas.List.Sums.{take_while-cons, prefix_len_stops, list_all-from_AllPass}
 use Rattle.std.proofs.lemmas.Slice.Eq.{starts_is}
 use Rattle.lq_lexer.specs.declared.scan.Piece.TheVariants.{Blank}
-use Rattle.lq_lexer.specs.Bytes.{is_space, is_name_byte}
+use Rattle.lq_text.specs.Byte.{is_name_byte}
+use Rattle.lq_lexer.specs.Bytes.{is_space}
 use Rattle.lq_lexer.specs.Tokens.{EndsWord, EndsLine, EndsAtFirstClose, IsBlank, BeginsWithBlank, BeginsWithComment}
 use Rattle.lq_lexer.specs.Tokens.IsBlank.{space, line_comment, block_comment}
 use Rattle.lq_lexer.specs.Scan.{close_from, blank_or_nothing, piece_of}

@@ -4,7 +4,8 @@ use Rattle.std.proofs.lemmas.Bool.{cond-true, cond-false}
 use Rattle.std.proofs.lemmas.List.{take_min}
 use Rattle.lq_lexer.specs.declared.token.TokenKind.TheVariants.{Sign}
 use Rattle.lq_lexer.specs.declared.scan.Piece.TheVariants.{Spelled, Nothing}
-use Rattle.lq_lexer.specs.Words.{is_among, signs}
+use Rattle.lq_text.specs.Word.{is_among}
+use Rattle.lq_lexer.specs.Sign.{signs}
 use Rattle.lq_lexer.specs.Scan.{sign_piece}
 
 among-take_min : (text : List ℕ) (n : ℕ) (b : Bool) → n ≡ min 2 (length text) → is_among signs (take n text) ≡ b → is_among signs (take 2 text) ≡ b

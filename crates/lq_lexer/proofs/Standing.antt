@@ -1,23 +1,28 @@
 -- What the scanner finds stands there by the rules, and nothing else does.
-use Rattle.std.proofs.Common.{◌≡◌, ◌==◌, ℕ, suc, ◌+◌, ◌<◌, ◌≤◌, ◌^◌, ◌&&◌, ◌⊎◌, Bool, true, false, not, cond, nat_eq, nat_lt, List, [], ◌∷◌, ◌++◌, codes, length, take, drop, refl, sym, ap, ◌∙◌, subst, inl, inr, arith}
-use Rattle.std.specs.Prelude.{slice_index}
+use Rattle.std.proofs.Common.{◌≡◌, ◌==◌, ℕ, ◌+◌, ◌<◌, ◌≤◌, ◌^◌, ◌&&◌, ◌⊎◌, true, false, not, cond, nat_eq, nat_lt, List, [], ◌∷◌, ◌++◌, codes, length, take, drop, Option, Some, None, ℤ, refl, sym, ap, ◌∙◌, subst, inl, inr, arith}
+use Rattle.std.specs.Prelude.{slice_index, is_some}
+use Rattle.std.specs.Option.{SomeIff}
 use Rattle.std.specs.List.{list_all, prefix_len, take_while, starts_with}
 use Rattle.std.specs.Char.{is_ascii_digit}
-use Rattle.std.specs.Str.Parse.{digits_value}
-use Rattle.std.proofs.lemmas.Bool.{and_parts, and_from, cases_Bool, cond-true, cond-false, both_ways, not-true, not_from_false, false_from_ne_true, ltb-true, ltb-false, lt-ltb, eq-eqb, eqb-true}
-use Rattle.std.proofs.lemmas.List.{nil_from_length, length-append, take_at, take-append-drop, length-take, length-take-le}
+use Rattle.std.proofs.lemmas.Bool.{and_parts, and_from, cases_Bool, cond-true, cond-false, both_ways, not-true, not_from_false, false_from_ne_true, ltb-true, lt-ltb, eq-eqb, eqb-true}
+use Rattle.std.proofs.lemmas.List.{length-append, take_at, take-append-drop, length-take, length-take-le}
 use Rattle.std.proofs.lemmas.List.Sums.{take_while-cons, prefix_len-le-length, AllPass-from_list_all}
+use Rattle.lq_text.specs.Byte.{is_letter, is_name_byte}
+use Rattle.lq_text.specs.Numeral.{IsDigits, place_value}
+use Rattle.lq_text.specs.Word.{is_among}
+use Rattle.lq_text.specs.Literal.{IsLiteral}
+use Rattle.lq_text.proofs.LiteralLemmas.{digits_of_test, test_of_digits, short_digits}
 use Rattle.lq_lexer.specs.declared.token.TokenKind.{TokenKind}
-use Rattle.lq_lexer.specs.declared.token.TokenKind.TheVariants.{Name, Number, Sign, Keyword, Annotation, Unused}
+use Rattle.lq_lexer.specs.declared.token.TokenKind.TheVariants.{Number, Sign}
 use Rattle.lq_lexer.specs.declared.scan.Piece.{Piece}
 use Rattle.lq_lexer.specs.declared.scan.Piece.TheVariants.{Blank, Spelled, Nothing}
-use Rattle.lq_lexer.specs.Bytes.{is_space, is_letter, is_name_byte}
-use Rattle.lq_lexer.specs.Words.{is_among, signs, keywords, annotation_words, unused_words, kind_of_word}
-use Rattle.lq_lexer.specs.Tokens.{IsWord, IsNumber, Spells, IsToken, BeginsWithBlank, BeginsWithComment, BeginsWithToken}
+use Rattle.lq_lexer.specs.Bytes.{is_space}
+use Rattle.lq_lexer.specs.Sign.{signs}
+use Rattle.lq_lexer.specs.Tokens.{Spells, IsToken, BeginsWithBlank, BeginsWithComment, BeginsWithToken}
 use Rattle.lq_lexer.specs.Faults.{IsStuck}
-use Rattle.lq_lexer.specs.Tokens.IsBlank.{space, line_comment, block_comment}
-use Rattle.lq_lexer.specs.Scan.{close_from, blank_or_nothing, is_number, run_piece, sign_piece, piece_of}
-use Rattle.lq_lexer.proofs.Spelling.{sign_looks, one_kind, spelling_some, spelling_name_bytes, spelling_sign, spelling_word, all_digits, digits_all}
+use Rattle.lq_lexer.specs.Tokens.IsBlank.{line_comment, block_comment, space}
+use Rattle.lq_lexer.specs.Scan.{close_from, blank_or_nothing, is_literal, kind_of_word, run_piece, sign_piece, piece_of}
+use Rattle.lq_lexer.proofs.Spelling.{sign_looks, one_kind, spelling_some, spelling_name_bytes, spelling_sign, spelling_literal, word_from_bytes, kind_spells}
 use Rattle.lq_lexer.proofs.Pieces.{cases_Option, first_of_append, prefix_len-append, list_all-take_while, prefix_len-ends, ends_run, comment_from, no_comment_from, close_some, line_ends, blank_is}
 
 -- the piece stands at the front of the text
@@ -28,32 +33,32 @@ Stands text Nothing = IsStuck text
 
 -- ---- runs of letters, digits and `_`
 
-zero_alone : (digits : List ℕ) → slice_index digits 0 ≡ 48 → nat_lt 1 (length digits) ≡ false → 0 < length digits → digits ≡ codes "0"
-zero_alone [] first short some = absurd (omega arith)
-zero_alone (c ∷ cs) first short some =
-    let none : cs ≡ [] = nil_from_length cs (omega (arith, ltb-false 1 (suc (length cs)) short)) in
-    ap (λ (d : ℕ). d ∷ cs) first ∙ ap (λ (t : List ℕ). 48 ∷ t) none
-
-number_decided : (digits : List ℕ) → is_number digits ≡ true → 0 < length digits → IsNumber digits
-number_decided digits h some =
-    let parts = and_parts (list_all is_ascii_digit digits && not (slice_index digits 0 == 48 && nat_lt 1 (length digits))) (nat_lt (digits_value 10 digits) (2 ^ 63)) h in
-    let front = and_parts (list_all is_ascii_digit digits) (not (slice_index digits 0 == 48 && nat_lt 1 (length digits))) parts.0 in
-    let zeros : (slice_index digits 0 == 48 && nat_lt 1 (length digits)) ≡ false = not-true _ front.1 in
+literal_decided : (text : List ℕ) → is_literal text ≡ true → 0 < length text → IsLiteral text
+literal_decided text h some =
+    let parts = and_parts (list_all is_ascii_digit text && not (slice_index text 0 == 48 && nat_lt 1 (length text))) (nat_lt (place_value text) (2 ^ 63)) h in
+    let front = and_parts (list_all is_ascii_digit text) (not (slice_index text 0 == 48 && nat_lt 1 (length text))) parts.0 in
+    let zeros : (slice_index text 0 == 48 && nat_lt 1 (length text)) ≡ false = not-true _ front.1 in
+    let digits : IsDigits text = (some, digits_of_test text front.0) in
     record {
-      numeral = (some, all_digits digits front.0);
-      small = ltb-true (digits_value 10 digits) (2 ^ 63) parts.1;
-      no_leading_zero = λ first. zero_alone digits first (false_from_ne_true (nat_lt 1 (length digits)) (λ long. both_ways (slice_index digits 0 == 48 && nat_lt 1 (length digits)) zeros (and_from (slice_index digits 0 == 48) (nat_lt 1 (length digits)) (eq-eqb (slice_index digits 0) 48 first) long))) some;
+      digits = digits;
+      short = short_digits text digits (λ first long. both_ways (slice_index text 0 == 48 && nat_lt 1 (length text)) zeros (and_from (slice_index text 0 == 48) (nat_lt 1 (length text)) (eq-eqb (slice_index text 0) 48 first) (lt-ltb 1 (length text) long)));
+      small = ltb-true (place_value text) (2 ^ 63) parts.1;
     }
 
-number_decides : (digits : List ℕ) → IsNumber digits → is_number digits ≡ true
-number_decides digits h =
-    and_from (list_all is_ascii_digit digits && not (slice_index digits 0 == 48 && nat_lt 1 (length digits))) (nat_lt (digits_value 10 digits) (2 ^ 63))
-    (and_from (list_all is_ascii_digit digits) (not (slice_index digits 0 == 48 && nat_lt 1 (length digits))) (digits_all digits h.numeral.1)
-    (not_from_false (slice_index digits 0 == 48 && nat_lt 1 (length digits)) (false_from_ne_true (slice_index digits 0 == 48 && nat_lt 1 (length digits)) (λ both.
-    let parts = and_parts (slice_index digits 0 == 48) (nat_lt 1 (length digits)) both in
-    let alone : digits ≡ codes "0" = h.no_leading_zero (eqb-true (slice_index digits 0) 48 parts.0) in
-    absurd (omega (arith, ltb-true 1 (length digits) parts.1, ap length alone))))))
-    (lt-ltb (digits_value 10 digits) (2 ^ 63) h.small)
+literal_decides : (text : List ℕ) → IsLiteral text → is_literal text ≡ true
+literal_decides text h =
+    and_from (list_all is_ascii_digit text && not (slice_index text 0 == 48 && nat_lt 1 (length text))) (nat_lt (place_value text) (2 ^ 63))
+    (and_from (list_all is_ascii_digit text) (not (slice_index text 0 == 48 && nat_lt 1 (length text))) (test_of_digits text h.digits.1)
+    (not_from_false (slice_index text 0 == 48 && nat_lt 1 (length text)) (false_from_ne_true (slice_index text 0 == 48 && nat_lt 1 (length text)) (λ both.
+    let parts = and_parts (slice_index text 0 == 48) (nat_lt 1 (length text)) both in
+    let one = h.short.0 (eqb-true (slice_index text 0) 48 parts.0) in
+    absurd (omega (arith, ltb-true 1 (length text) parts.1, one))))))
+    (lt-ltb (place_value text) (2 ^ 63) h.small)
+
+-- what `read_literal` tells
+pub literal_told : (text : List ℕ) (r : Option ℤ) (z : ℤ) → 0 < length text → SomeIff r (IsLiteral text) z → is_some r ≡ is_literal text
+literal_told text None z some none = sym (false_from_ne_true (is_literal text) (λ is. none (literal_decided text is some)))
+literal_told text (Some y) z some h = sym (literal_decides text h.0)
 
 -- A token where a run begins is no longer than the run, and a number is the whole run.
 token_in_run : (text : List ℕ) → is_name_byte (slice_index text 0) ≡ true → (kind : TokenKind) (word rest : List ℕ) → text ≡ word ++ rest → IsToken kind word rest
@@ -62,33 +67,6 @@ token_in_run text first kind word rest split token =
     let some = spelling_some kind word token.spelled in
     let first' : is_name_byte (slice_index word 0) ≡ true = ap is_name_byte (sym (ap (λ (t : List ℕ). slice_index t 0) split ∙ first_of_append word rest some)) ∙ first in
     (first', ap (prefix_len is_name_byte) split ∙ prefix_len-append is_name_byte word rest (spelling_name_bytes kind word first' token.spelled))
-
-run_word : (run : List ℕ) → is_letter (slice_index run 0) ≡ true → list_all is_name_byte run ≡ true → IsWord run
-run_word [] first all = absurd cc
-run_word (b ∷ more) first all = (first, AllPass-from_list_all is_name_byte more (and_parts (is_name_byte b) (list_all is_name_byte more) all).1)
-
--- the kinds that the lists give
-abbrev IsWordKind : TokenKind → Type 0
-IsWordKind Number = ⊥
-IsWordKind Sign = ⊥
-IsWordKind kind = Unit {0}
-
-one_of_four : (a b c : Bool) → IsWordKind (cond a Keyword (cond b Annotation (cond c Unused Name)))
-one_of_four true b c = tt
-one_of_four false true c = tt
-one_of_four false false true = tt
-one_of_four false false false = tt
-
-word_kind : (word : List ℕ) → IsWordKind (kind_of_word word)
-word_kind word = one_of_four (is_among keywords word) (is_among annotation_words word) (is_among unused_words word)
-
-kind_spells : (kind : TokenKind) (word : List ℕ) → IsWordKind kind → IsWord word → kind_of_word word ≡ kind → Spells kind word
-kind_spells Name word is h e = (h, e)
-kind_spells Number word is h e = absurd is
-kind_spells Sign word is h e = absurd is
-kind_spells Keyword word is h e = (h, e)
-kind_spells Annotation word is h e = (h, e)
-kind_spells Unused word is h e = (h, e)
 
 -- the run as a token of a kind, once it spells one
 run_token : (text : List ℕ) → is_name_byte (slice_index text 0) ≡ true → (kind : TokenKind) → Spells kind (take_while is_name_byte text) → ¬ BeginsWithComment text
@@ -111,16 +89,16 @@ run_first [] first = absurd cc
 run_first (b ∷ more) first = rw (take_while-cons is_name_byte b more, first) (omega arith, refl)
 
 -- Where the run spells nothing, no token begins.
-run_stuck : (text : List ℕ) → is_name_byte (slice_index text 0) ≡ true → is_letter (slice_index text 0) ≡ false → is_number (take_while is_name_byte text) ≡ false
+run_stuck : (text : List ℕ) → is_name_byte (slice_index text 0) ≡ true → is_letter (slice_index text 0) ≡ false → is_literal (take_while is_name_byte text) ≡ false
     → (kind : TokenKind) (word rest : List ℕ) → ¬ BeginsWithToken text kind word rest
 run_stuck text first no_letter no_number kind word rest h =
     let inside = token_in_run text first kind word rest h.split h.is_token in
     let same_first : slice_index text 0 ≡ slice_index word 0 = ap (λ (t : List ℕ). slice_index t 0) h.split ∙ first_of_append word rest (spelling_some kind word h.is_token.spelled) in
-    let number : IsNumber word = spelling_word kind word (ap is_letter (sym same_first) ∙ no_letter) inside.0 h.is_token.spelled in
+    let number : IsLiteral word = spelling_literal kind word (ap is_letter (sym same_first) ∙ no_letter) inside.0 h.is_token.spelled in
     let is : kind ≡ Number = one_kind kind Number word h.is_token.spelled number in
     let whole : prefix_len is_name_byte text ≡ length word = omega (arith, inside.1, prefix_len-ends rest (h.is_token.apart is)) in
     let same : take_while is_name_byte text ≡ word = ap (take (prefix_len is_name_byte text)) h.split ∙ take_at word rest (prefix_len is_name_byte text) (sym whole) in
-    both_ways (is_number (take_while is_name_byte text)) no_number (ap is_number same ∙ number_decides word number)
+    both_ways (is_literal (take_while is_name_byte text)) no_number (ap is_literal same ∙ literal_decides word number)
 
 -- no blank, where the scanner finds none
 no_blank_from : (text : List ℕ) (found : Piece) → piece_of text ≡ found → ((n : ℕ) → found ≡ Blank n → ⊥) → (blank rest : List ℕ) → ¬ BeginsWithBlank text blank rest
@@ -132,14 +110,14 @@ run_stands text first no_comment some is =
     let at_first = run_first text first in
     elim (cases_Bool (is_letter (slice_index run 0))) [
       | inl letter ↦
-          subst (Stands text) (sym (cond-true (is_letter (slice_index run 0)) (Spelled (kind_of_word run) (length run)) (cond (is_number run) (Spelled Number (length run)) Nothing) letter))
-          (run_token text first (kind_of_word run) (kind_spells (kind_of_word run) run (word_kind run) (run_word run letter (list_all-take_while is_name_byte text)) refl) no_comment)
-      | inr other ↦ elim (cases_Bool (is_number run)) [
+          subst (Stands text) (sym (cond-true (is_letter (slice_index run 0)) (Spelled (kind_of_word run) (length run)) (cond (is_literal run) (Spelled Number (length run)) Nothing) letter))
+          (run_token text first (kind_of_word run) (kind_spells run (word_from_bytes run letter (list_all-take_while is_name_byte text))) no_comment)
+      | inr other ↦ elim (cases_Bool (is_literal run)) [
         | inl number ↦
-            subst (Stands text) (sym (cond-false (is_letter (slice_index run 0)) (Spelled (kind_of_word run) (length run)) (cond (is_number run) (Spelled Number (length run)) Nothing) other ∙ cond-true (is_number run) (Spelled Number (length run)) Nothing number))
-            (run_token text first Number (number_decided run number at_first.0) no_comment)
+            subst (Stands text) (sym (cond-false (is_letter (slice_index run 0)) (Spelled (kind_of_word run) (length run)) (cond (is_literal run) (Spelled Number (length run)) Nothing) other ∙ cond-true (is_literal run) (Spelled Number (length run)) Nothing number))
+            (run_token text first Number (literal_decided run number at_first.0) no_comment)
         | inr no_number ↦
-            let nothing : run_piece run ≡ Nothing = cond-false (is_letter (slice_index run 0)) (Spelled (kind_of_word run) (length run)) (cond (is_number run) (Spelled Number (length run)) Nothing) other ∙ cond-false (is_number run) (Spelled Number (length run)) Nothing no_number in
+            let nothing : run_piece run ≡ Nothing = cond-false (is_letter (slice_index run 0)) (Spelled (kind_of_word run) (length run)) (cond (is_literal run) (Spelled Number (length run)) Nothing) other ∙ cond-false (is_literal run) (Spelled Number (length run)) Nothing no_number in
             subst (Stands text) (sym nothing) record {
               goes_on = some;
               no_blank = no_blank_from text Nothing (is ∙ nothing) (λ n e. cc);

@@ -1,6 +1,7 @@
 pub mod Bytes
-pub mod Words
+pub mod Sign
 pub mod Tokens
 pub mod Faults
 pub mod Scan
 pub mod Shape
+pub mod Counts

@@ -2,13 +2,16 @@
 -- just what Tokens.antt says.
 use Rattle.std.specs.Prelude.{ℕ, ◌+◌, ◌^◌, Bool, not, ◌&&◌, ◌==◌, nat_lt, List, [], ◌∷◌, length, take, drop, codes, slice_index, Option, Some, None, if◌then◌else◌, nat_eq}
 use Rattle.std.specs.List.{prefix_len, take_while, starts_with, list_all}
-use Rattle.std.specs.Str.Parse.{digits_value}
 use Rattle.std.specs.Char.{is_ascii_digit}
-use Rattle.lq_lexer.specs.declared.token.TokenKind.TheVariants.{Number, Sign}
+use Rattle.lq_lexer.specs.declared.token.TokenKind.{TokenKind}
+use Rattle.lq_lexer.specs.declared.token.TokenKind.TheVariants.{Name, Number, Sign, Keyword, Annotation, Unused}
 use Rattle.lq_lexer.specs.declared.scan.Piece.{Piece}
 use Rattle.lq_lexer.specs.declared.scan.Piece.TheVariants.{Blank, Spelled, Nothing}
-use Rattle.lq_lexer.specs.Bytes.{is_space, is_letter, is_name_byte}
-use Rattle.lq_lexer.specs.Words.{is_among, signs, kind_of_word}
+use Rattle.lq_text.specs.Byte.{is_letter, is_name_byte}
+use Rattle.lq_text.specs.Numeral.{place_value}
+use Rattle.lq_text.specs.Word.{is_among, keywords, annotation_words, unused_words}
+use Rattle.lq_lexer.specs.Bytes.{is_space}
+use Rattle.lq_lexer.specs.Sign.{signs}
 
 -- where the first `*/` ends, in a text that begins at this place
 abbrev pub close_from : ℕ → List ℕ → Option ℕ
@@ -20,10 +23,18 @@ abbrev pub blank_or_nothing : Option ℕ → Piece
 blank_or_nothing (Some n) = Blank n
 blank_or_nothing None = Nothing
 
--- the test of IsNumber, for a run that is not empty
-abbrev pub is_number : List ℕ → Bool
-is_number digits =
-    list_all is_ascii_digit digits && not (slice_index digits 0 == 48 && nat_lt 1 (length digits)) && nat_lt (digits_value 10 digits) (2 ^ 63)
+-- the test of IsLiteral, for a run that is not empty
+abbrev pub is_literal : List ℕ → Bool
+is_literal digits =
+    list_all is_ascii_digit digits && not (slice_index digits 0 == 48 && nat_lt 1 (length digits)) && nat_lt (place_value digits) (2 ^ 63)
+
+-- the kind of an identifier: a word that is in none of the lists is a name
+abbrev pub kind_of_word : List ℕ → TokenKind
+kind_of_word word =
+    if is_among keywords word then Keyword
+    else (if is_among annotation_words word then Annotation
+    else (if is_among unused_words word then Unused
+    else Name))
 
 -- the letters, digits and `_` at the front
 abbrev pub run_of : List ℕ → List ℕ
@@ -33,7 +44,7 @@ run_of text = take_while is_name_byte text
 abbrev pub run_piece : List ℕ → Piece
 run_piece run =
     if is_letter (slice_index run 0) then Spelled (kind_of_word run) (length run)
-    else (if is_number run then Spelled Number (length run) else Nothing)
+    else (if is_literal run then Spelled Number (length run) else Nothing)
 
 -- the longest sign at the front
 abbrev pub sign_piece : List ℕ → Piece

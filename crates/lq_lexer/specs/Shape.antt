@@ -1,9 +1,11 @@
 -- How many brackets a source has open at once, and how long its stretches are. docs/COMMANDS.md, "Limits".
 use Rattle.std.specs.Prelude.{◌≡◌, ℕ, zero, suc, ◌+◌, ◌-◌, ◌≤◌, max, Bool, not, List, [], ◌∷◌, ◌++◌, length, take, map, fold, codes, if◌then◌else◌}
-use Rattle.std.specs.List.{AllPass, suffix_len}
+use Rattle.std.specs.List.{AllPass}
 use Rattle.lq_tree.specs.declared.limit.Limit.{Limit}
+use Rattle.lq_tree.specs.declared.limit.Quantity.TheVariants.{Brackets, Stretch}
+use Rattle.lq_tree.specs.Limit.{row_of, passed}
 use Rattle.lq_lexer.specs.declared.token.Token.{Token}
-use Rattle.lq_lexer.specs.Words.{is_among}
+use Rattle.lq_text.specs.Word.{is_among}
 use Rattle.lq_lexer.specs.Tokens.{text_of}
 
 -- the tokens as texts
@@ -29,15 +31,6 @@ open_after count token =
 abbrev pub open_behind : List (List ℕ) → ℕ
 open_behind tokens = fold open_after 0 tokens
 
--- the largest of f 0, f 1, .., f n
-abbrev pub largest : (ℕ → ℕ) → ℕ → ℕ
-largest f zero = f 0
-largest f (suc n) = max (largest f n) (f (suc n))
-
--- the most brackets that are open at once, over all fronts of the tokens
-unfoldable pub most_open : List (List ℕ) → ℕ
-most_open tokens = largest (λ n. open_behind (take n tokens)) (length tokens)
-
 -- what ends a stretch
 abbrev pub stretch_ends : List (List ℕ)
 stretch_ends = codes ";" ∷ codes "{" ∷ codes "}" ∷ []
@@ -46,9 +39,26 @@ stretch_ends = codes ";" ∷ codes "{" ∷ codes "}" ∷ []
 abbrev pub is_in_stretch : List ℕ → Bool
 is_in_stretch token = not (is_among stretch_ends token)
 
--- the length of the longest stretch, over all places where one may end
+-- A token makes a stretch one longer, or ends it.
+abbrev pub stretch_after : ℕ → List ℕ → ℕ
+stretch_after count token = if is_in_stretch token then count + 1 else 0
+
+-- the largest of f 0, f 1, .., f n
+abbrev pub largest : (ℕ → ℕ) → ℕ → ℕ
+largest f zero = f 0
+largest f (suc n) = max (largest f n) (f (suc n))
+
+-- the largest that a count is, over all fronts of the tokens, where each token makes the next count of the one before
+abbrev pub largest_count : (ℕ → List ℕ → ℕ) → List (List ℕ) → ℕ
+largest_count after tokens = largest (λ n. fold after 0 (take n tokens)) (length tokens)
+
+-- the most brackets that are open at once
+unfoldable pub most_open : List (List ℕ) → ℕ
+most_open tokens = largest_count open_after tokens
+
+-- the length of the longest stretch
 unfoldable pub longest_stretch : List (List ℕ) → ℕ
-longest_stretch tokens = largest (λ n. suffix_len is_in_stretch (take n tokens)) (length tokens)
+longest_stretch tokens = largest_count stretch_after tokens
 
 -- n is the most: no front of the tokens has more brackets open behind it, and one has as many
 pub record IsMostOpen (tokens : List (List ℕ)) (n : ℕ) : Type 0 where
@@ -66,12 +76,13 @@ pub record IsLongestStretch (tokens : List (List ℕ)) (n : ℕ) : Type 0 where
 
 -- the tokens of the text keep both limits
 pub record IsShapely (text : List ℕ) (tokens : List Token) : Type 0 where
-  pub brackets : most_open (texts_of text tokens) ≤ 64
-  pub stretch : longest_stretch (texts_of text tokens) ≤ 512
+  pub brackets : most_open (texts_of text tokens) ≤ (row_of Brackets).allowed
+  pub stretch : longest_stretch (texts_of text tokens) ≤ (row_of Stretch).allowed
 
--- in the table of limits `brackets` is the sixth and `stretch` the seventh
+-- so many brackets, told as what passes their limit
 abbrev pub too_many_brackets : ℕ → Limit
-too_many_brackets count = record { which = 6; found = count; allowed = 64 }
+too_many_brackets count = passed Brackets count
 
+-- so long a stretch, told as what passes its limit
 abbrev pub too_long_stretch : ℕ → Limit
-too_long_stretch count = record { which = 7; found = count; allowed = 512 }
+too_long_stretch count = passed Stretch count

@@ -1,29 +1,24 @@
 -- What the tokens of a text are. docs/LANGUAGE.md, "Tokens".
-use Rattle.std.specs.Prelude.{◌≡◌, ℕ, ◌+◌, ◌^◌, ◌<◌, ◌≤◌, ◌⊎◌, true, false, not, ◌==◌, List, [], ◌∷◌, ◌++◌, length, codes, slice_index, slice_range, ⊤}
+use Rattle.std.specs.Prelude.{◌≡◌, ℕ, ◌+◌, ◌≤◌, ◌⊎◌, true, false, not, ◌==◌, List, [], ◌∷◌, ◌++◌, length, codes, slice_range, ⊤}
 use Rattle.std.specs.List.{AllPass}
-use Rattle.std.specs.Str.Parse.{IsNumeral, digits_value}
 use Rattle.lq_lexer.specs.declared.token.TokenKind.{TokenKind}
-use Rattle.lq_lexer.specs.declared.token.TokenKind.TheVariants.{Number, Sign}
+use Rattle.lq_lexer.specs.declared.token.TokenKind.TheVariants.{Name, Number, Sign, Keyword, Annotation, Unused}
 use Rattle.lq_lexer.specs.declared.token.Token.{Token}
-use Rattle.lq_lexer.specs.Bytes.{is_space, is_source_byte, is_letter, is_name_byte}
-use Rattle.lq_lexer.specs.Words.{is_among, signs, kind_of_word}
+use Rattle.lq_text.specs.Byte.{is_name_byte}
+use Rattle.lq_text.specs.Word.{is_among, keywords, annotation_words, unused_words}
+use Rattle.lq_text.specs.Name.{IsName}
+use Rattle.lq_text.specs.Literal.{IsLiteral}
+use Rattle.lq_lexer.specs.Bytes.{is_space, is_source_byte}
+use Rattle.lq_lexer.specs.Sign.{signs}
 
--- a letter or `_`, then letters, digits and `_`
-abbrev pub IsWord : List ℕ → Type 0
-IsWord [] = ⊥
-IsWord (first ∷ more) = (is_letter first ≡ true) × AllPass is_name_byte more
-
--- `0`, or a numeral without a leading zero, of a value of at most 2^63-1
-pub record IsNumber (digits : List ℕ) : Type 0 where
-  pub numeral : IsNumeral 10 digits
-  pub small : digits_value 10 digits < 2 ^ 63
-  pub no_leading_zero : slice_index digits 0 ≡ 48 → digits ≡ codes "0"
-
--- the text of a token of each kind; of a word the lists tell the kind
+-- the text of a token of each kind
 abbrev pub Spells : TokenKind → List ℕ → Type 0
-Spells Number text = IsNumber text
+Spells Name text = IsName text
+Spells Number text = IsLiteral text
 Spells Sign text = is_among signs text ≡ true
-Spells kind text = IsWord text × (kind_of_word text ≡ kind)
+Spells Keyword text = is_among keywords text ≡ true
+Spells Annotation text = is_among annotation_words text ≡ true
+Spells Unused text = is_among unused_words text ≡ true
 
 -- nothing, or a byte that is no letter, digit or `_`
 abbrev pub EndsWord : List ℕ → Type 0

@@ -1,6 +1,9 @@
-ghost use Rattle.std.specs.Prelude.{◌≡◌};
-ghost use Rattle.lq_lexer.specs.Bytes.{is_space, is_source_byte, is_letter, is_name_byte};
+//! The bytes of a source.
 
+ghost use Rattle.std.specs.Prelude.{◌≡◌};
+ghost use Rattle.lq_lexer.specs.Bytes.{is_space, is_source_byte};
+
+/// Whether the byte is a tab, line feed, carriage return or blank.
 pub fn is_space(b: u8) -> bool
     ensures { result ≡ is_space b }
 {
@@ -12,18 +15,4 @@ pub fn is_source_byte(b: u8) -> bool
     ensures { result ≡ is_source_byte b }
 {
     matches!(b, b'\t' | b'\n' | b'\r' | b' '..=b'~')
-}
-
-/// Whether a name may begin with this byte.
-pub fn is_letter(b: u8) -> bool
-    ensures { result ≡ is_letter b }
-{
-    b.is_ascii_alphabetic() || b == b'_'
-}
-
-/// Whether a name may go on with this byte.
-pub fn is_name_byte(b: u8) -> bool
-    ensures { result ≡ is_name_byte b }
-{
-    is_letter(b) || b.is_ascii_digit()
 }

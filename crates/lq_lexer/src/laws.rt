@@ -1,3 +1,5 @@
+//! What follows from the definitions alone: each law is the contract of a function that does nothing.
+
 ghost use Rattle.std.specs.Prelude.{◌≡◌, ℕ, ◌<◌, ◌≤◌, ◌⊎◌, List, length, All};
 ghost use Rattle.std.specs.List.{AllPairs};
 ghost use Rattle.lq_lexer.specs.declared.token.Token.{Token};

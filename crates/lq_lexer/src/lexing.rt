@@ -1,3 +1,5 @@
+//! The tokens of a text, or its first fault.
+
 ghost use Rattle.std.specs.Prelude.{◌≡◌, ℕ, ◌<◌, ◌≤◌, List, [], length, not, IfOk, IfErr, IsErr, All};
 ghost use Rattle.std.specs.List.{AllPairs, prefix_len};
 ghost use Rattle.lq_lexer.specs.declared.token.Token.{Token};
@@ -18,6 +20,7 @@ pub enum LexFault {
     /// The first fault of the text stands at this byte.
     #[error("a lexical fault at byte {at}")]
     At { at: usize },
+    /// Memory ran out.
     #[error("out of memory")]
     NoMemory,
 }
@@ -30,14 +33,14 @@ impl<T: Drop> From<AllocFailed<T>> for LexFault {
     }
 }
 
-/// How many bytes at the front a source may hold.
+// How many bytes at the front a source may hold.
 fn source_len(text: &[u8]) -> usize
     ensures { result ≡ prefix_len is_source_byte text.now }
 {
     text.iter().take_while(|b| is_source_byte(**b)).count()
 }
 
-/// The tokens, where bytes that no source holds may stand in comments.
+// The tokens, where bytes that no source holds may stand in comments.
 fn pieces(alloc: Global, text: &[u8]) -> Result<Vec<Token>, LexFault>
     ensures read { IfOk result (λ tokens. Reads 0 text.now tokens.items []) }
     ensures stuck { IfErr result (λ fault. IfAt fault (IsStuckAt text.now)) }

@@ -6,8 +6,8 @@ pub mod laws;
 mod lexing;
 mod scan;
 mod shape;
+mod sign;
 mod token;
-mod words;
 
 pub use lexing::{LexFault, lex};
 pub use shape::check_shape;

@@ -1,14 +1,16 @@
-ghost use Rattle.std.specs.Prelude.{◌≡◌, ◌==◌, ◌^◌, ◌<◌, true, length, drop, map, not, nat_lt};
-ghost use Rattle.std.specs.Char.{is_ascii_digit};
-ghost use Rattle.std.specs.Str.Parse.{digits_value};
-ghost use Rattle.std.specs.List.{prefix_len, list_all};
-ghost use Rattle.lq_lexer.specs.Bytes.{is_space, is_letter, is_name_byte};
-ghost use Rattle.lq_lexer.specs.Words.{kind_of_word, is_among, signs};
-ghost use Rattle.lq_lexer.specs.Scan.{close_from, blank_or_nothing, run_of, is_number, run_piece, sign_piece, piece_of};
+//! What a text begins with.
 
-use crate::bytes::{is_letter, is_name_byte, is_space};
+ghost use Rattle.std.specs.Prelude.{◌≡◌, ◌==◌, ◌<◌, length, drop, not};
+ghost use Rattle.std.specs.List.{prefix_len};
+ghost use Rattle.lq_text.specs.Byte.{is_name_byte};
+ghost use Rattle.lq_lexer.specs.Scan.{close_from, kind_of_word, is_literal, run_piece, sign_piece, piece_of};
+
+use crate::bytes::is_space;
+use crate::sign::is_sign;
 use crate::token::TokenKind;
-use crate::words::{SIGNS, is_among, kind_of_word};
+use lq_text::{
+    is_annotation_word, is_keyword, is_letter, is_name_byte, is_unused_word, read_literal,
+};
 
 /// What a text begins with.
 #[derive(Clone, Copy)]
@@ -21,14 +23,14 @@ pub enum Piece {
     Nothing,
 }
 
-/// The length of a comment to the end of its line.
+// The length of a comment to the end of its line.
 fn line_len(text: &[u8]) -> usize
     ensures { result ≡ prefix_len (λ b. not (b == 10)) text.now }
 {
     text.iter().take_while(|b| **b != b'\n').count()
 }
 
-/// Where the first `*/` from byte 2 on ends.
+// Where the first `*/` from byte 2 on ends.
 fn comment_len(text: &[u8]) -> Option<usize>
     ensures { result ≡ close_from 2 (drop 2 text.now) }
 {
@@ -40,71 +42,59 @@ fn comment_len(text: &[u8]) -> Option<usize>
     None
 }
 
-/// How many letters, digits and `_` there are at the front.
+// How many letters, digits and `_` there are at the front.
 fn run_len(text: &[u8]) -> usize
     ensures { result ≡ prefix_len is_name_byte text.now }
 {
     text.iter().take_while(|b| is_name_byte(**b)).count()
 }
 
-/// Whether the digits write a number below 2^63.
-fn is_small(digits: &[u8]) -> bool
-    requires { list_all is_ascii_digit digits.now ≡ true }
-    ensures { result ≡ nat_lt (digits_value 10 digits.now) (2 ^ 63) }
+// The kind of a word, by the lists.
+fn kind_of_word(word: &[u8]) -> TokenKind
+    ensures { result ≡ kind_of_word word.now }
 {
-    let mut value = 0u64;
-    for digit in digits {
-        let digit = u64::from(*digit - b'0');
-        if value > (i64::MAX as u64 - digit) / 10 {
-            return false;
-        }
-        value = value * 10 + digit;
+    if is_keyword(word) {
+        TokenKind::Keyword
+    } else if is_annotation_word(word) {
+        TokenKind::Annotation
+    } else if is_unused_word(word) {
+        TokenKind::Unused
+    } else {
+        TokenKind::Name
     }
-    true
 }
 
-/// Whether there are digits alone.
-fn are_digits(run: &[u8]) -> bool
-    ensures { result ≡ list_all is_ascii_digit run.now }
-{
-    run.iter().all(|b| b.is_ascii_digit())
-}
-
-/// Whether the run is a number: digits, no needless zero, and below 2^63.
-fn is_number(run: &[u8]) -> bool
+// Whether the run is a number.
+fn is_literal(run: &[u8]) -> bool
     requires { 0 < length run.now }
-    ensures { result ≡ is_number run.now }
+    ensures { result ≡ is_literal run.now }
 {
-    if !are_digits(run) {
-        return false;
-    }
-    let has_leading_zero = run[0] == b'0' && run.len() > 1;
-    !has_leading_zero && is_small(run)
+    read_literal(run).is_some()
 }
 
-/// The token that a run of letters, digits and `_` is: a word, a number or none.
+// The token that a run of letters, digits and `_` is: a word, a number or none.
 fn run_piece(run: &[u8]) -> Piece
     requires { 0 < length run.now }
     ensures { result ≡ run_piece run.now }
 {
     if is_letter(run[0]) {
         Piece::Spelled(kind_of_word(run), run.len())
-    } else if is_number(run) {
+    } else if is_literal(run) {
         Piece::Spelled(TokenKind::Number, run.len())
     } else {
         Piece::Nothing
     }
 }
 
-/// The longest sign at the front.
+// The longest sign at the front.
 fn sign_piece(text: &[u8]) -> Piece
     requires { 0 < length text.now }
     ensures { result ≡ sign_piece text.now }
 {
     let two = text.len().min(2);
-    if is_among(&SIGNS, &text[..two]) {
+    if is_sign(&text[..two]) {
         Piece::Spelled(TokenKind::Sign, two)
-    } else if is_among(&SIGNS, &text[..1]) {
+    } else if is_sign(&text[..1]) {
         Piece::Spelled(TokenKind::Sign, 1)
     } else {
         Piece::Nothing

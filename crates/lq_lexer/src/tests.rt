@@ -40,7 +40,7 @@ fn each_list_has_its_kind(rt: HostRuntime) -> Result<(), Fail> {
     Ok(())
 }
 
-/// Each text, where its tokens start and where they end.
+// Each text, where its tokens start and where they end.
 #[test]
 fn texts_are_cut(rt: HostRuntime) -> Result<(), Fail> {
     for (text, starts, ends) in [

@@ -1,3 +1,5 @@
+//! Tokens.
+
 ghost use Rattle.std.specs.Prelude.{◌≡◌, ◌≤◌, length};
 ghost use Rattle.lq_lexer.specs.Tokens.{text_of};
 
@@ -8,7 +10,9 @@ pub enum TokenKind {
     Name,
     /// A number from 0 to 2^63-1.
     Number,
+    /// A sign, of one byte or two.
     Sign,
+    /// A word that the grammar uses.
     Keyword,
     /// `commutative` or `atomic`.
     Annotation,

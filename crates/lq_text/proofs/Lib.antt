@@ -2,3 +2,8 @@ pub mod Lists
 pub mod NumeralLemmas
 pub mod LineLemmas
 pub mod NumbersLemmas
+pub mod WordLemmas
+pub mod NameLemmas
+pub mod LiteralLemmas
+pub mod AtomLemmas
+pub mod OrderLemmas

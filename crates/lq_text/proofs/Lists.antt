@@ -1,5 +1,5 @@
 -- Joined lists, and what holds of each element of their parts.
-use Rattle.std.proofs.Common.{◌≡◌, ◌≤◌, List, [], ◌∷◌, ◌++◌, length, refl, ap, arith, length-append}
+use Rattle.std.proofs.Common.{◌≡◌, ◌≢◌, ℕ, ◌≤◌, List, [], ◌∷◌, ◌++◌, length, refl, ap, arith, length-append}
 use Rattle.std.specs.List.{AllByRecursion}
 
 -- where two joined lists are the same, the first that is no longer begins the other
@@ -37,3 +37,11 @@ module _ {X : Type 0} (P : X → Type 0) where
 pub all_weaker : {X : Type 0} (P Q : X → Type 0) → ((x : X) → P x → Q x) → (a : List X) → AllByRecursion P a → AllByRecursion Q a
 all_weaker P Q f [] h = tt
 all_weaker P Q f (x ∷ a) h = (f x h.0, all_weaker P Q f a h.1)
+
+-- none of the elements is this one
+abbrev pub Avoids : ℕ → List ℕ → Type 0
+Avoids one list = AllByRecursion (λ each. each ≢ one) list
+
+pub meets : (one : ℕ) (a b : List ℕ) → Avoids one (a ++ one ∷ b) → ⊥
+meets one [] b h = h.0 refl
+meets one (x ∷ a) b h = meets one a b h.1

@@ -1,3 +1,10 @@
 pub mod Numeral
 pub mod Line
 pub mod Numbers
+pub mod Byte
+pub mod Word
+pub mod Name
+pub mod Literal
+pub mod Reads
+pub mod Atom
+pub mod Order
