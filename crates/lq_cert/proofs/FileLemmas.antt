@@ -3,12 +3,15 @@ use Rattle.std.proofs.Common.{◌≡◌, ℕ, ◌+◌, ◌<◌, ◌≤◌, eqb, 
 use Rattle.std.specs.List.{AllByRecursion, slice_split, onto_first}
 use Rattle.std.proofs.lemmas.Bool.{cases_lt}
 use Rattle.std.proofs.lemmas.List.{append-nil, length-map}
+use Rattle.std.proofs.lemmas.Grind.{flat_map-append}
 use Rattle.lq_text.specs.Numbers.{lines_of}
-use Rattle.lq_text.proofs.Lists.{front_of, all_right}
-use Rattle.lq_cert.specs.Line.{IsLine, line_words, line_text}
-use Rattle.lq_cert.specs.ProofFile.{lines_text, IsProofText, IsLineText, IsBadLine, IsFirstBadLine}
+use Rattle.lq_text.proofs.Lists.{all_joined, all_right, all_weaker}
+use Rattle.lq_cert.specs.Line.{IsLine, fact_count, line_words, line_text}
+use Rattle.lq_cert.specs.ProofFile.{most_facts, most_facts_by, IsLineOf, AreLines, lines_text, IsProofText, IsLineText, IsBadLine, IsFirstBadLine}
 use Rattle.lq_cert.specs.Split.{Avoids, IsSplitAt}
+use Rattle.lq_cert.specs.declared.line.FileVersion.TheVariants.{One}
 use Rattle.lq_cert.specs.declared.line.Line.{Line}
+use Rattle.lq_cert.specs.declared.line.Line.TheVariants.{Version}
 use Rattle.lq_cert.proofs.InkLemmas.{words_avoid, split_words}
 use Rattle.lq_cert.proofs.SpellingLemmas.{words_inject}
 use Rattle.lq_cert.proofs.SplitLemmas.{same_split, split_first, split_none, avoids_joined}
@@ -22,6 +25,12 @@ line_inject : (a b : Line) → IsLine a → IsLine b → line_text a ≡ line_te
 line_inject a b h k e =
     words_inject a b h k (sym (split_words a h) ∙ ap (slice_split (λ byte. eqb byte 32)) e ∙ split_words b k)
 
+-- a line with too many facts leaves none for its text
+pub too_many : (lines : List Line) (text : List ℕ) (line : Line) → IsLine line → line_text line ≡ text → most_facts lines < fact_count line → (other : Line) → IsLineOf lines other → line_text other ≡ text → ⊥
+too_many lines text line is e many other h same =
+    let count : fact_count line ≡ fact_count other = ap fact_count (line_inject line other is h.0 (e ∙ sym same)) in
+    omega (arith, h.1)
+
 -- ---- what stands between the line feeds
 
 lines_of-lines_text : (lines : List Line) (rest : List ℕ) → AllByRecursion IsLine lines → lines_of (lines_text lines ++ rest) ≡ map line_text lines ++ lines_of rest
@@ -32,9 +41,9 @@ lines_of-lines_text (line ∷ lines) rest h =
     let moved : ((text ++ 10 ∷ []) ++ more) ++ rest ≡ text ++ 10 ∷ (more ++ rest) = append_assoc (text ++ 10 ∷ []) more rest ∙ append_assoc text (10 ∷ []) (more ++ rest) in
     ap lines_of moved ∙ split_first 10 text (more ++ rest) (line_avoids line h.0) ∙ ap (λ ts. text ∷ ts) (lines_of-lines_text lines rest h.1)
 
-good_lines : (lines : List Line) → AllByRecursion IsLine lines → AllByRecursion IsLineText (map line_text lines)
-good_lines [] h = tt
-good_lines (line ∷ lines) h = ((line, h.0, refl), good_lines lines h.1)
+-- the lines of a proof file are well-formed by themselves
+are_formed : (lines : List Line) → AreLines lines → AllByRecursion IsLine lines
+are_formed lines h = all_weaker (IsLineOf lines) IsLine (λ line is. is.0) lines h
 
 onto_some : (x : ℕ) (parts : List (List ℕ)) → (first : List ℕ) × (rest : List (List ℕ)) × (onto_first x parts ≡ first ∷ rest)
 onto_some x [] = (x ∷ [], [], refl)
@@ -49,14 +58,46 @@ lines_some (x ∷ text) =
       | false ↦ onto_some x (lines_of text)
     ]
 
+-- ---- lines and the version of their file
+
+-- the first line has no more facts than it allows itself
+first_fits : (line : Line) → fact_count line ≤ 256 → fact_count line ≤ most_facts_by line
+first_fits (Version One) h = omega arith
+first_fits _ h = h
+
+fits_first : (line : Line) → fact_count line ≤ most_facts_by line → fact_count line ≤ 256
+fits_first (Version One) h = omega arith
+fits_first _ h = h
+
+-- a line that may stand behind these makes them one more
+one_more : (lines : List Line) (line : Line) → AreLines lines → IsLineOf lines line → AreLines (lines ++ line ∷ [])
+one_more [] line h k = ((k.0, first_fits line k.1), tt)
+one_more (first ∷ later) line h k = all_joined (IsLineOf (first ∷ later)) (first ∷ later) (line ∷ []) h (k, tt)
+
+-- a line of a file may stand behind those before it
+stands_behind : (before later : List Line) (line : Line) → IsLineOf (before ++ line ∷ later) line → IsLineOf before line
+stands_behind [] later line h = (h.0, fits_first line h.1)
+stands_behind (first ∷ before) later line h = h
+
 -- ---- reading
 
 -- the lines so far were read from the front of a text
 pub record ReadLines (text rest : List ℕ) (lines : List Line) (entry : ℕ) : Type 0 where
-  pub formed : AllByRecursion IsLine lines
+  pub formed : AreLines lines
   pub joined : lines_text lines ++ rest ≡ text
   pub counted : entry ≡ length lines
   pub room : entry + length rest ≤ length text
+
+pub read_more : (text rest bytes behind : List ℕ) (lines : List Line) (line : Line) (entry : ℕ) → ReadLines text rest lines entry → IsSplitAt 10 rest bytes behind → IsLineOf lines line → line_text line ≡ bytes → ReadLines text behind (lines ++ line ∷ []) (entry + 1)
+read_more text rest bytes behind lines line entry r s h e =
+    let cut : rest ≡ (line_text line ++ 10 ∷ []) ++ behind = s.joined ∙ ap (λ t. t ++ 10 ∷ behind) (sym e) ∙ sym (append_assoc (line_text line) (10 ∷ []) behind) in
+    record {
+      formed = one_more lines line r.formed h;
+      joined = ap (λ t. t ++ behind) (flat_map-append (λ l. line_text l ++ 10 ∷ []) lines (line ∷ []) ∙ ap (λ t. lines_text lines ++ t) (append-nil (line_text line ++ 10 ∷ [])))
+          ∙ append_assoc (lines_text lines) (line_text line ++ 10 ∷ []) behind ∙ ap (λ t. lines_text lines ++ t) (sym cut) ∙ r.joined;
+      counted = omega (arith, r.counted, length-append lines (line ∷ []));
+      room = omega (arith, r.room, ap length cut, length-append (line_text line ++ 10 ∷ []) behind, length-append (line_text line) (10 ∷ []));
+    }
 
 pub read_all : (text rest : List ℕ) (lines : List Line) (entry : ℕ) → ReadLines text rest lines entry → length rest ≡ 0 → IsProofText text lines
 read_all text [] lines entry r none = record {
@@ -65,14 +106,14 @@ read_all text [] lines entry r none = record {
 }
 read_all text (x ∷ rest) lines entry r none = absurd (omega arith)
 
-bad_line : (text rest bad : List ℕ) (after : List (List ℕ)) (lines : List Line) (entry : ℕ) → ReadLines text rest lines entry → lines_of rest ≡ bad ∷ after → IsBadLine bad after → IsFirstBadLine text (entry + 1)
+bad_line : (text rest bad : List ℕ) (after : List (List ℕ)) (lines : List Line) (entry : ℕ) → ReadLines text rest lines entry → lines_of rest ≡ bad ∷ after → IsBadLine lines bad after → IsFirstBadLine text (entry + 1)
 bad_line text rest bad after lines entry r e is_bad = record {
-  before = map line_text lines;
+  before = lines;
   bad = bad;
   after = after;
-  split = ap lines_of (sym r.joined) ∙ lines_of-lines_text lines rest r.formed ∙ ap (λ ls. map line_text lines ++ ls) e;
-  counted = omega (arith, r.counted, length-map lines line_text);
-  good_before = good_lines lines r.formed;
+  split = ap lines_of (sym r.joined) ∙ lines_of-lines_text lines rest (are_formed lines r.formed) ∙ ap (λ ls. map line_text lines ++ ls) e;
+  counted = omega (arith, r.counted);
+  good_before = r.formed;
   is_bad = is_bad;
 }
 
@@ -81,8 +122,8 @@ pub no_line_feed : (text rest : List ℕ) (lines : List Line) (entry : ℕ) → 
 no_line_feed text rest lines entry r some h =
     bad_line text rest rest [] lines entry r (split_none 10 rest h) (λ none. omega (arith, ap length none))
 
--- the next line spells none
-pub no_line : (text rest bytes behind : List ℕ) (lines : List Line) (entry : ℕ) → ReadLines text rest lines entry → IsSplitAt 10 rest bytes behind → ((line : Line) → IsLine line → line_text line ≡ bytes → ⊥) → IsFirstBadLine text (entry + 1)
+-- the next line spells none that may stand there
+pub no_line : (text rest bytes behind : List ℕ) (lines : List Line) (entry : ℕ) → ReadLines text rest lines entry → IsSplitAt 10 rest bytes behind → ((line : Line) → IsLineOf lines line → line_text line ≡ bytes → ⊥) → IsFirstBadLine text (entry + 1)
 no_line text rest bytes behind lines entry r s none =
     let more = lines_some behind in
     bad_line text rest bytes (more.0 ∷ more.1) lines entry r
@@ -105,47 +146,60 @@ lines_inject (x ∷ a) (y ∷ b) h k e =
     cc
 
 pub one_proof : (text : List ℕ) (lines others : List Line) → IsProofText text lines → IsProofText text others → lines ≡ others
-one_proof text lines others p q = lines_inject lines others p.formed q.formed (sym p.spelled ∙ q.spelled)
+one_proof text lines others p q =
+    lines_inject lines others (are_formed lines p.formed) (are_formed others q.formed) (sym p.spelled ∙ q.spelled)
 
--- no bad line is the first of good ones with others behind them
-good_front : (x tail after : List (List ℕ)) (bad : List ℕ) → AllByRecursion IsLineText x → 0 < length x → 0 < length tail → bad ∷ after ≡ x ++ tail → IsBadLine bad after → ⊥
-good_front [] tail after bad h some more e is_bad = omega arith
-good_front (y ∷ x) tail [] bad h some more e is_bad =
-    omega (arith, ap length e, length-append x tail)
-good_front (y ∷ x) tail (next ∷ later) bad h some more e is_bad =
-    let same : y ≡ bad = cc in
-    is_bad (subst IsLineText same h.0)
+-- what stands behind the texts of some of the lines is the text of the next
+next_line : (before lines : List Line) (tail after : List (List ℕ)) (bad : List ℕ) → AllByRecursion IsLine before → AllByRecursion IsLine lines → map line_text lines ++ tail ≡ map line_text before ++ bad ∷ after → length before < length lines
+    → (line : Line) × (later : List Line) × (lines ≡ before ++ line ∷ later) × (bad ≡ line_text line) × (map line_text later ++ tail ≡ after)
+next_line [] [] tail after bad h k e lt = absurd (omega arith)
+next_line [] (line ∷ later) tail after bad h k e lt = (line, later, refl, cc, cc)
+next_line (x ∷ before) [] tail after bad h k e lt = absurd (omega arith)
+next_line (x ∷ before) (y ∷ lines) tail after bad h k e lt =
+    let texts : line_text x ≡ line_text y = cc in
+    let rest : map line_text lines ++ tail ≡ map line_text before ++ bad ∷ after = cc in
+    let same = line_inject x y h.0 k.0 texts in
+    let found = next_line before lines tail after bad h.1 k.1 rest (omega arith) in
+    let behind : lines ≡ before ++ found.0 ∷ found.1 = found.2 in
+    (found.0, found.1, cc, found.3, found.4)
 
--- nor does one stand among good ones
-bad_among : (good tail before after : List (List ℕ)) (bad : List ℕ) → AllByRecursion IsLineText good → 0 < length tail → good ++ tail ≡ before ++ bad ∷ after → length before < length good → IsBadLine bad after → ⊥
-bad_among good tail before after bad h some e lt is_bad =
-    let r = front_of before (bad ∷ after) good tail (sym e) (omega arith) in
-    let left = all_right IsLineText before r.0 (subst (AllByRecursion IsLineText) r.1 h) in
-    good_front r.0 tail after bad left (omega (arith, ap length r.1, length-append before r.0)) some r.2 is_bad
+-- a line with a line feed behind it is bad only if it spells none
+not_bad : (before : List Line) (bytes : List ℕ) (after : List (List ℕ)) → 0 < length after → IsLineText before bytes → IsBadLine before bytes after → ⊥
+not_bad before bytes [] some spelled is_bad = omega arith
+not_bad before bytes (next ∷ later) some spelled is_bad = is_bad spelled
+
+-- no bad line stands among the lines of a proof file with more behind them
+bad_among : (lines before : List Line) (tail after : List (List ℕ)) (bad : List ℕ) → AreLines lines → AreLines before → 0 < length tail → map line_text lines ++ tail ≡ map line_text before ++ bad ∷ after → length before < length lines → IsBadLine before bad after → ⊥
+bad_among lines before tail after bad h k some e lt is_bad =
+    let next = next_line before lines tail after bad (are_formed before k) (are_formed lines h) e lt in
+    let each : AllByRecursion (IsLineOf lines) (before ++ next.0 ∷ next.1) = subst (AllByRecursion (IsLineOf lines)) next.2 h in
+    let here : IsLineOf lines next.0 = (all_right (IsLineOf lines) before (next.0 ∷ next.1) each).0 in
+    let behind : IsLineOf before next.0 = stands_behind before next.1 next.0 (subst (λ ls. IsLineOf ls next.0) next.2 here) in
+    not_bad before bad after (omega (arith, ap length next.4, length-append (map line_text next.1) tail)) (next.0, behind, next.3) is_bad
 
 -- behind the last line feed of a proof stands nothing, which is no bad line
-nothing_bad : (front before after : List (List ℕ)) (bad : List ℕ) → front ++ [] ∷ [] ≡ before ++ bad ∷ after → length front ≤ length before → IsBadLine bad after → ⊥
-nothing_bad [] [] [] bad e le is_bad = let same : bad ≡ [] = cc in is_bad same
-nothing_bad [] [] (next ∷ later) bad e le is_bad = omega (arith, ap length e)
-nothing_bad [] (x ∷ before) after bad e le is_bad =
+nothing_bad : (lines : List Line) (front before after : List (List ℕ)) (bad : List ℕ) → front ++ [] ∷ [] ≡ before ++ bad ∷ after → length front ≤ length before → IsBadLine lines bad after → ⊥
+nothing_bad lines [] [] [] bad e le is_bad = let same : bad ≡ [] = cc in is_bad same
+nothing_bad lines [] [] (next ∷ later) bad e le is_bad = omega (arith, ap length e)
+nothing_bad lines [] (x ∷ before) after bad e le is_bad =
     omega (arith, ap length e, length-append before (bad ∷ after))
-nothing_bad (y ∷ front) [] after bad e le is_bad = omega arith
-nothing_bad (y ∷ front) (x ∷ before) after bad e le is_bad =
+nothing_bad lines (y ∷ front) [] after bad e le is_bad = omega arith
+nothing_bad lines (y ∷ front) (x ∷ before) after bad e le is_bad =
     let rest : front ++ [] ∷ [] ≡ before ++ bad ∷ after = cc in
-    nothing_bad front before after bad rest (omega arith) is_bad
+    nothing_bad lines front before after bad rest (omega arith) is_bad
 
 pub proof_has_no_bad_line : (text : List ℕ) (lines : List Line) (entry : ℕ) → IsProofText text lines → IsFirstBadLine text entry → ⊥
 proof_has_no_bad_line text lines entry p b =
     let whole : text ≡ lines_text lines ++ [] = p.spelled ∙ sym (append-nil (lines_text lines)) in
-    let split : map line_text lines ++ [] ∷ [] ≡ b.before ++ b.bad ∷ b.after = sym (lines_of-lines_text lines [] p.formed) ∙ ap lines_of (sym whole) ∙ b.split in
-    elim (cases_lt (length b.before) (length (map line_text lines))) [
-      | inl lt ↦ bad_among (map line_text lines) ([] ∷ []) b.before b.after b.bad (good_lines lines p.formed) (omega arith) split lt b.is_bad
-      | inr le ↦ nothing_bad (map line_text lines) b.before b.after b.bad split le b.is_bad
+    let split : map line_text lines ++ [] ∷ [] ≡ map line_text b.before ++ b.bad ∷ b.after = sym (lines_of-lines_text lines [] (are_formed lines p.formed)) ∙ ap lines_of (sym whole) ∙ b.split in
+    elim (cases_lt (length b.before) (length lines)) [
+      | inl lt ↦ bad_among lines b.before ([] ∷ []) b.after b.bad p.formed b.good_before (omega arith) split lt b.is_bad
+      | inr le ↦ nothing_bad b.before (map line_text lines) (map line_text b.before) b.after b.bad split (omega (arith, length-map lines line_text, length-map b.before line_text)) b.is_bad
     ]
 
 no_earlier : (text : List ℕ) (entry other : ℕ) (b : IsFirstBadLine text entry) (d : IsFirstBadLine text other) → length b.before < length d.before → ⊥
 no_earlier text entry other b d lt =
-    bad_among d.before (d.bad ∷ d.after) b.before b.after b.bad d.good_before (omega arith) (sym d.split ∙ b.split) lt b.is_bad
+    bad_among d.before b.before (d.bad ∷ d.after) b.after b.bad d.good_before b.good_before (omega arith) (sym d.split ∙ b.split) lt b.is_bad
 
 pub one_bad_line : (text : List ℕ) (entry other : ℕ) → IsFirstBadLine text entry → IsFirstBadLine text other → entry ≡ other
 one_bad_line text entry other b d =

@@ -5,24 +5,27 @@ use Rattle.std.specs.Char.{IsAsciiDigit}
 use Rattle.std.specs.List.{AllByRecursion, list_all, flat_map, slice_split}
 use Rattle.std.proofs.lemmas.Bool.{and_parts, ltb-true}
 use Rattle.std.proofs.lemmas.Bool.Decides.{nat_tests}
-use Rattle.lq_lexer.specs.Bytes.{is_name_byte}
+use Rattle.lq_text.specs.Byte.{is_name_byte}
 use Rattle.lq_text.specs.Numeral.{decimal_of}
 use Rattle.lq_text.proofs.Lists.{all_joined, all_weaker}
 use Rattle.lq_text.proofs.NumeralLemmas.{IsSignOrDigit, numeral_bytes, decimal_numeral}
 use Rattle.lq_linear.specs.Terms.{IsWithin}
 use Rattle.lq_cert.specs.Numeral.{numeral}
-use Rattle.lq_cert.specs.Atom.{IsName, IsSubject, subject_text, IsAtom, atom_text}
-use Rattle.lq_cert.specs.Line.{IsTerm, IsLine, term_words, part_word, line_words, line_text}
+use Rattle.lq_text.specs.Name.{IsName}
+use Rattle.lq_text.specs.Atom.{IsSubject, subject_text, IsAtom, atom_text}
+use Rattle.lq_cert.specs.Line.{IsTerm, IsLine, version_text, term_words, part_word, line_words, line_text}
 use Rattle.lq_cert.specs.Split.{Avoids}
-use Rattle.lq_cert.specs.declared.atom.Subject.{Subject}
-use Rattle.lq_cert.specs.declared.atom.Subject.TheVariants.{Field, Local, Returned}
-use Rattle.lq_cert.specs.declared.atom.Atom.{Atom}
-use Rattle.lq_cert.specs.declared.atom.Atom.TheVariants.{Element, Value, Offset, Length}
-use Rattle.lq_cert.specs.declared.line.Term.{Term}
+use Rattle.lq_text.specs.declared.atom.Subject.{Subject}
+use Rattle.lq_text.specs.declared.atom.Subject.TheVariants.{Field, Local, Placeholder, Returned}
+use Rattle.lq_text.specs.declared.atom.Atom.{Atom}
+use Rattle.lq_text.specs.declared.atom.Atom.TheVariants.{Element, Value, Offset, Length}
+use Rattle.lq_text.specs.declared.order.Term.{Term}
 use Rattle.lq_cert.specs.declared.line.Part.{Part}
+use Rattle.lq_cert.specs.declared.line.FileVersion.{FileVersion}
+use Rattle.lq_cert.specs.declared.line.FileVersion.TheVariants.{One, Two}
 use Rattle.lq_cert.specs.declared.line.Line.{Line}
 use Rattle.lq_cert.specs.declared.line.Line.TheVariants.{Version, Row, Condition, Exact, Goal, Void, End}
-use Rattle.lq_cert.proofs.NameLemmas.{name_bytes}
+use Rattle.lq_text.proofs.NameLemmas.{name_bytes}
 use Rattle.lq_cert.proofs.NumbersLemmas.{word_of_within}
 use Rattle.lq_cert.specs.Reading.{keyword_text}
 use Rattle.lq_cert.proofs.SpellingLemmas.{keyword_of}
@@ -55,12 +58,12 @@ ink_of_name : (c : ℕ) → is_name_byte c ≡ true → 32 < c
 ink_of_name c h = grind (arith, nat_tests)
 
 name_ink : (text : List ℕ) → IsName text → IsInk text
-unfolding IsName
-name_ink text h = all_weaker _ _ ink_of_name text (name_bytes text h.0)
+name_ink text h = all_weaker _ _ ink_of_name text (name_bytes text h.identifier)
 
 subject_ink : (s : Subject) → IsSubject s → IsInk (subject_text s)
 subject_ink (Field name) h = (omega arith, name_ink name h)
 subject_ink (Local name) h = name_ink name h.0
+subject_ink (Placeholder name) h = (omega arith, name_ink name h)
 subject_ink Returned h = ink_by_test (codes "result") refl
 
 wrapped_ink : (front inner : List ℕ) → IsInk front → IsInk inner → IsInk (front ++ (inner ++ codes ")"))
@@ -82,7 +85,7 @@ parts_ink (part ∷ parts) = (part_ink part, parts_ink parts)
 terms_ink : (terms : List Term) → AllByRecursion IsTerm terms → AllByRecursion IsInk (flat_map term_words terms)
 terms_ink [] h = tt
 terms_ink (term ∷ terms) h =
-    (decimal_ink (2 ^ 16) term.coefficient (omega arith) h.0.0.within, (atom_ink term.atom h.0.1, terms_ink terms h.1))
+    (decimal_ink (2 ^ 16) term.coefficient (omega arith) h.0.0.within, (atom_ink term.atom h.0.1.0, terms_ink terms h.1))
 
 -- the words of a row behind its template
 row_ink : (terms : List Term) (most : ℤ) → AllByRecursion IsTerm terms → IsWithin (2 ^ 40) most → AllByRecursion IsInk (flat_map term_words terms ++ codes "<=" ∷ decimal_of most ∷ [])
@@ -90,8 +93,12 @@ row_ink terms most h within =
     all_joined IsInk (flat_map term_words terms) _ (terms_ink terms h)
     (ink_by_test (codes "<=") refl, (decimal_ink (2 ^ 40) most (omega arith) within, tt))
 
+version_ink : (version : FileVersion) → IsInk (version_text version)
+version_ink One = ink_by_test (codes "1") refl
+version_ink Two = ink_by_test (codes "2") refl
+
 pub words_ink : (line : Line) → IsLine line → AllByRecursion IsInk (line_words line)
-words_ink Version h = (ink_by_test (codes "proof") refl, (ink_by_test (codes "1") refl, tt))
+words_ink (Version version) h = (ink_by_test (codes "proof") refl, (version_ink version, tt))
 words_ink (Row template terms most) h =
     (ink_by_test (codes "row") refl, (numeral_ink template, row_ink terms most h.1.are_terms h.2))
 words_ink (Condition number) h = (ink_by_test (codes "cond") refl, (numeral_ink number, tt))

@@ -7,11 +7,9 @@ pub mod FoundLemmas
 pub mod NumeralLemmas
 pub mod SplitLemmas
 pub mod NumbersLemmas
-pub mod NameLemmas
-pub mod AtomLemmas
-pub mod OrderLemmas
 pub mod InkLemmas
 pub mod SpellingLemmas
 pub mod ReadingLemmas
 pub mod WritingLemmas
 pub mod FileLemmas
+pub mod RenewalLemmas

@@ -10,11 +10,10 @@ use Rattle.lq_linear.specs.Certificate.{Exactness, Certificate}
 use Rattle.lq_linear.specs.declared.item.Item.{Item}
 use Rattle.lq_linear.specs.declared.combination.TheConstants.{WIDTH}
 use Rattle.lq_linear.proofs.LawLemmas.{all_usable}
-use Rattle.lq_validity.specs.Derives.{divisions, division_count}
+use Rattle.lq_validity.specs.Derives.{divisions}
 use Rattle.lq_cert.specs.Right.{MayUse, IsRight, IsRightEntry, IsRightCertificate, IsNarrow}
-use Rattle.lq_cert.proofs.PlaceLemmas.{divisions_total, one_split}
 use Rattle.lq_cert.proofs.RisingLemmas.{all_both}
-use Rattle.lq_cert.proofs.SoundLemmas.{entry_of, third_divides}
+use Rattle.lq_cert.proofs.SoundLemmas.{entry_of, third_divides, right_before}
 
 -- a fact stays one when more items come
 fact_later : (multipliers : List ℕ) (later items : List Item) (n : ℕ) → IsFact multipliers items n → IsFact multipliers (later ++ items) n
@@ -51,13 +50,9 @@ module _ (multipliers : List ℕ) (items : List Item) (entries : List Exactness)
           third = λ t.
               let found = entry_of (λ e. IsRightEntry entries items e × IsNarrow multipliers e.combination) entries (divisions (reverse h.before) + 1) (h.fact.third t) right in
               let entry = found.0 in
-              let shown = found.2.0 in
-              let same = one_split division_count shown.before shown.after h.before (h.after ++ back) shown.item h.item 0 0 (sym shown.parts ∙ whole)
-              (omega (arith, shown.counted, found.1, divisions_total shown.before, divisions_total h.before)) (omega (arith, shown.divides)) (omega (arith, third_divides h.item h.place h.fact.there t)) in
-              let here : IsRight entries h.before (dividend_row h.item) entry.combination
-              = subst (λ b. IsRight entries b (dividend_row h.item) entry.combination) same.0 (subst (λ (x : Item). IsRight entries shown.before (dividend_row x) entry.combination) same.1 shown.right) in
+              let here = right_before entries items h.before (h.after ++ back) h.item entry whole (third_divides h.item h.place h.fact.there t) found.2.0 found.1 in
               let deeper = used_fact m h.before (h.item ∷ (h.after ++ back)) (omega (arith, l, ap length h.parts, length-append h.before (h.item ∷ h.after))) whole in
-              (entry.combination, narrowed h.before (dividend_row h.item) entry.combination found.2.1 here deeper, shown.directly, here.1);
+              (entry.combination, narrowed h.before (dividend_row h.item) entry.combination found.2.1 here deeper, (found.2.0).directly, here.1);
         },
       )))
 

@@ -25,6 +25,7 @@ no_multiplier_below {text} natural none n allowed same =
 number_of : {text : List ℕ} (z : ℤ) → IsNatural text → IsNumeral text z → to_z w64 (of_z w64 z) ≡ pos (place_value text)
 number_of {text} z natural n = to_z-of_z w64 z (numeral_word n) ∙ natural_value text z natural n
 
+-- what `try_from` makes of a number: the number itself, where it fits 32 bits
 abbrev IsTried : {E : Type 0} → Result ℕ E → ℤ → Type 0
 IsTried r z = OkIff r (FitsUnsignedBits 32 z) (nat_abs z)
 

@@ -1,8 +1,9 @@
 -- What words of lines are read as.
-use Rattle.std.proofs.Common.{◌≡◌, ℕ, suc, zero, ◌+◌, ◌-◌, ◌^◌, ◌<◌, ◌≤◌, List, [], ◌∷◌, ◌++◌, length, get_or, take, drop, map, Bor, Option, Some, None, Result, Ok, Err, eqb, ℤ, w64, to_z, of_z, refl, sym, ap, subst, ◌∙◌, arith, append_assoc, drop-cons}
-use Rattle.std.specs.Prelude.{codes, IfOk}
+use Rattle.std.proofs.Common.{◌≡◌, ℕ, suc, zero, ◌+◌, ◌-◌, ◌^◌, ◌<◌, ◌≤◌, List, [], ◌∷◌, ◌++◌, length, get_or, take, drop, map, Bor, Option, Some, None, Result, Ok, Err, true, eqb, ℤ, w64, to_z, of_z, refl, sym, ap, subst, ◌∙◌, arith, append_assoc, drop-cons}
+use Rattle.std.specs.Prelude.{codes, IfOk, MatchOption, IsSomeAnd}
 use Rattle.std.specs.List.{AllByRecursion, flat_map, slice_split, join_with_byte}
 use Rattle.std.proofs.Math.ListN.{drop_of_length-le}
+use Rattle.std.proofs.lemmas.Bool.{true≢false}
 use Rattle.std.proofs.lemmas.Int.{to_z-of_z}
 use Rattle.std.proofs.lemmas.List.{take-append-drop, take_all, map-append, length-map, append-nil}
 use Rattle.std.proofs.lemmas.List.Splits.{join_with_byte-slice_split}
@@ -10,21 +11,25 @@ use Rattle.std.proofs.lemmas.Grind.{flat_map-append}
 use Rattle.lq_linear.specs.Terms.{IsCoefficient, IsWithin}
 use Rattle.lq_text.specs.Numeral.{decimal_of}
 use Rattle.lq_cert.specs.Numeral.{numeral}
-use Rattle.lq_cert.specs.Atom.{IsAtom, atom_text, AreInOrder}
-use Rattle.lq_cert.specs.Line.{IsTerm, AreRowTerms, IsPart, AreParts, IsLine, term_words, part_word, line_words, line_text}
+use Rattle.lq_text.specs.Atom.{IsAtom, has_placeholder, atom_text}
+use Rattle.lq_text.specs.Order.{AreInOrder}
+use Rattle.lq_cert.specs.Line.{IsRowAtom, IsTerm, AreRowTerms, IsPart, AreParts, IsLine, version_text, term_words, part_word, line_words, line_text}
 use Rattle.lq_cert.specs.Reading.{texts_of, keyword_text}
-use Rattle.lq_cert.specs.Reads.{Reads}
+use Rattle.lq_text.specs.Reads.{Reads}
 use Rattle.lq_cert.specs.declared.reading.Keyword.{Keyword}
 use Rattle.lq_cert.specs.Split.{Avoids, IsSplitAt}
-use Rattle.lq_cert.specs.declared.atom.Atom.{Atom}
-use Rattle.lq_cert.specs.declared.line.Term.{Term}
+use Rattle.lq_text.specs.declared.atom.Atom.{Atom}
+use Rattle.lq_text.specs.declared.order.Term.{Term}
 use Rattle.lq_cert.specs.declared.line.Part.{Part}
+use Rattle.lq_cert.specs.declared.line.FileVersion.{FileVersion}
 use Rattle.lq_cert.specs.declared.line.Line.{Line}
+use Rattle.lq_cert.specs.declared.line.Line.TheVariants.{Version}
 use Rattle.lq_text.proofs.Lists.{all_joined}
+use Rattle.lq_text.proofs.AtomLemmas.{reads_mapped, atom_inject}
 use Rattle.lq_cert.proofs.NumbersLemmas.{word_of_within}
 use Rattle.lq_cert.proofs.SplitLemmas.{same_split, meets}
 use Rattle.lq_cert.proofs.InkLemmas.{split_words}
-use Rattle.lq_cert.proofs.SpellingLemmas.{numeral_avoids, terms_inject, last_two, row_words, row_of, keyword_of}
+use Rattle.lq_cert.proofs.SpellingLemmas.{numeral_avoids, terms_inject, last_two, version_of, row_words, row_of, keyword_of}
 
 -- ---- words by their places
 
@@ -69,9 +74,20 @@ module _ {X : Type 0} where
 
 -- ---- versions
 
-pub version_words : (words : List (Bor (List ℕ))) (d : Bor (List ℕ)) → 1 ≤ length words → length words < 2 → (get_or words 0 d).now ≡ codes "1" → codes "proof" ∷ codes "1" ∷ [] ≡ codes "proof" ∷ texts_of words
-version_words words d some few e =
-    ap (λ ws. codes "proof" ∷ ws) (ap (λ w. w ∷ []) (sym e) ∙ ap texts_of (sym (one_word words d some few)))
+version_words : (words : List (Bor (List ℕ))) (d : Bor (List ℕ)) (version : FileVersion) → 1 ≤ length words → length words < 2 → version_text version ≡ (get_or words 0 d).now → line_words (Version version) ≡ codes "proof" ∷ texts_of words
+version_words words d version some few e =
+    ap (λ ws. codes "proof" ∷ ws) (ap (λ w. w ∷ []) e ∙ ap texts_of (sym (one_word words d some few)))
+
+version_back : (words : List (Bor (List ℕ))) (d : Bor (List ℕ)) → 1 ≤ length words → (line : Line) → line_words line ≡ codes "proof" ∷ texts_of words → (version : FileVersion) × Unit {0} × (version_text version ≡ (get_or words 0 d).now)
+version_back [] d some line same = absurd (omega arith)
+version_back (word ∷ words) d some line same =
+    let v = version_of line (texts_of (word ∷ words)) same in
+    (v.0, tt, cc (v.1))
+
+pub version_read : (words : List (Bor (List ℕ))) (d : Bor (List ℕ)) (o : Option FileVersion) (r : Option Line) → 1 ≤ length words → length words < 2 → Reads (λ _. Unit {0}) version_text (get_or words 0 d).now o → MatchOption o (r ≡ None) (λ version. IsSomeAnd r (λ line. line ≡ Version version)) → Reads IsLine line_words (codes "proof" ∷ texts_of words) r
+version_read words d o r some few reads made =
+    reads_mapped (λ _. Unit {0}) version_text (get_or words 0 d).now IsLine line_words (codes "proof" ∷ texts_of words) Version
+    (λ version yes e. (tt, version_words words d version some few e)) (λ line is same. version_back words d some line same) o r reads made
 
 -- ---- parts
 
@@ -95,13 +111,19 @@ part_at (part ∷ parts) (word ∷ words) (suc i) d h e lt =
     let rest : map part_word parts ≡ texts_of words = cc in
     part_at parts words i d h.1 rest (omega arith)
 
-pub parts_all : (parts : List Part) (words : List (Bor (List ℕ))) (n : ℕ) → AllByRecursion IsPart parts → map part_word parts ≡ texts_of (take n words) → length words ≤ n → length words ≤ 64 → AreParts parts × (map part_word parts ≡ texts_of words)
+pub parts_all : (parts : List Part) (words : List (Bor (List ℕ))) (n : ℕ) → AllByRecursion IsPart parts → map part_word parts ≡ texts_of (take n words) → length words ≤ n → length words ≤ 256 → AreParts parts × (map part_word parts ≡ texts_of words)
 parts_all parts words n h e whole few =
     let same : map part_word parts ≡ texts_of words = e ∙ ap texts_of (take_all n words whole) in
     let count : length parts ≡ length words = sym (length-map parts part_word) ∙ ap length same ∙ length-map words (λ (word : Bor (List ℕ)). word.now) in
     ((omega arith, h), same)
 
 -- ---- terms
+
+-- an atom with a placeholder leaves none for its text that a row may have
+pub no_row_atom : (text : List ℕ) (atom : Atom) → IsAtom atom → atom_text atom ≡ text → has_placeholder atom ≡ true → (other : Atom) → IsRowAtom other → atom_text other ≡ text → ⊥
+no_row_atom text atom is e open_still other h same =
+    let equal = atom_inject atom other is h.0 (e ∙ sym same) in
+    true≢false (sym open_still ∙ ap has_placeholder equal ∙ h.1)
 
 -- some terms have these words
 abbrev pub AreReadable : List (List ℕ) → Type 0
@@ -130,7 +152,7 @@ no_coefficient all rest more coefficient atom terms r e none others h same =
     let front = readable_front coefficient atom more (subst AreReadable e (r.left (others, h, same))) in
     none front.0.coefficient front.1.0 front.2
 
-pub no_atom : (all rest more : List (List ℕ)) (coefficient atom : List ℕ) (terms : List Term) → ReadTerms all rest terms → rest ≡ coefficient ∷ atom ∷ more → ((a : Atom) → IsAtom a → atom_text a ≡ atom → ⊥) → (others : List Term) → AllByRecursion IsTerm others → flat_map term_words others ≡ all → ⊥
+pub no_atom : (all rest more : List (List ℕ)) (coefficient atom : List ℕ) (terms : List Term) → ReadTerms all rest terms → rest ≡ coefficient ∷ atom ∷ more → ((a : Atom) → IsRowAtom a → atom_text a ≡ atom → ⊥) → (others : List Term) → AllByRecursion IsTerm others → flat_map term_words others ≡ all → ⊥
 no_atom all rest more coefficient atom terms r e none others h same =
     let front = readable_front coefficient atom more (subst AreReadable e (r.left (others, h, same))) in
     none front.0.atom front.1.1 front.3

@@ -1,15 +1,10 @@
 -- Lists that ascend by a key.
 use Rattle.std.proofs.Common.{◌≡◌, ℕ, zero, suc, ◌+◌, ◌<◌, ◌≤◌, inl, inr, List, [], ◌∷◌, length, get_or, drop, sym, ap, arith, add-one, drop-cons}
 use Rattle.std.specs.List.{AllByRecursion}
-use Rattle.lq_linear.specs.Derivation.{Part, NumbersAscend}
+use Rattle.lq_linear.specs.Ascend.{AscendBy}
 use Rattle.lq_linear.specs.Certificate.{Exactness}
 use Rattle.lq_linear.proofs.Collecting.{all_map}
-use Rattle.lq_cert.specs.Right.{EntriesAscend, HasEntry}
-
--- the keys ascend
-abbrev pub AscendBy : {X : Type 0} → (X → ℕ) → List X → Type 0
-AscendBy key [] = Unit {0}
-AscendBy key (x ∷ xs) = AllByRecursion (λ later. key x < key later) xs × AscendBy key xs
+use Rattle.lq_cert.specs.Right.{HasEntry}
 
 module _ {X : Type 0} (key : X → ℕ) (Q : X → Type 0) where
   -- from the key n on, and each is right
@@ -42,22 +37,6 @@ module _ {X : Type 0} (key : X → ℕ) (Q : X → Type 0) where
 
 pub drop_at : {X : Type 0} (xs : List X) (i : ℕ) (x : X) → i < length xs → x ≡ get_or xs i x → drop i xs ≡ x ∷ drop (i + 1) xs
 drop_at xs i x l e = rw (add-one, drop-cons xs i x) (ap (λ y. y ∷ drop (suc i) xs) (sym e))
-
-pub entries_by : (entries : List Exactness) → AscendBy (λ (e : Exactness). e.item) entries → EntriesAscend entries
-entries_by [] h = tt
-entries_by (e ∷ entries) h = (h.0, entries_by entries h.1)
-
-pub by_entries : (entries : List Exactness) → EntriesAscend entries → AscendBy (λ (e : Exactness). e.item) entries
-by_entries [] h = tt
-by_entries (e ∷ entries) h = (h.0, by_entries entries h.1)
-
-pub parts_by : (parts : List Part) → AscendBy (λ (p : Part). p.1) parts → NumbersAscend parts
-parts_by [] h = tt
-parts_by (p ∷ parts) h = (h.0, parts_by parts h.1)
-
-pub by_parts : (parts : List Part) → NumbersAscend parts → AscendBy (λ (p : Part). p.1) parts
-by_parts [] h = tt
-by_parts (p ∷ parts) h = (h.0, by_parts parts h.1)
 
 pub all_both : {X : Type 0} (P Q : X → Type 0) (xs : List X) → AllByRecursion P xs → AllByRecursion Q xs → AllByRecursion (λ x. P x × Q x) xs
 all_both P Q [] h k = tt

@@ -44,6 +44,14 @@ all_middle : (P : Item → Type 0) (before after : List Item) (item : Item) → 
 all_middle P [] after item h = h.0
 all_middle P (x ∷ before) after item h = all_middle P before after item h.1
 
+-- an entry for the division or remainder behind some items is right for these items
+pub right_before : (entries : List Exactness) (items before behind : List Item) (item : Item) (entry : Exactness) → items ≡ before ++ item ∷ behind → division_count item ≡ 1 → IsRightEntry entries items entry → entry.item ≡ divisions (reverse before) + 1
+    → IsRight entries before (dividend_row item) entry.combination
+right_before entries items before behind item entry whole divides shown number =
+    let same = one_split division_count shown.before shown.after before behind shown.item item 0 0 (sym shown.parts ∙ whole)
+    (omega (arith, shown.counted, number, divisions_total shown.before, divisions_total before)) (omega (arith, shown.divides)) (omega (arith, divides)) in
+    subst (λ b. IsRight entries b (dividend_row item) entry.combination) same.0 (subst (λ (x : Item). IsRight entries shown.before (dividend_row x) entry.combination) same.1 shown.right)
+
 module _ (v : ℕ → ℤ) (items : List Item) (entries : List Exactness) (met : AllByRecursion (MeetsItem v) items) (right : AllByRecursion (IsRightEntry entries items) entries) where
   -- each row that may be used is met, for the items at the front
   pub used_met : (m : ℕ) (front back : List Item) → length front ≤ m → items ≡ front ++ back → (n : ℕ) → MayUse entries front n → Meets v (row_numbered (rows (reverse front)) n)
@@ -54,11 +62,7 @@ module _ (v : ℕ → ℤ) (items : List Item) (entries : List Exactness) (met :
       (item_row v h.item h.place (all_middle (MeetsItem v) h.before (h.after ++ back) h.item (subst (AllByRecursion (MeetsItem v)) whole met)) h.fact.there (λ t.
       let found = entry_of (IsRightEntry entries items) entries (divisions (reverse h.before) + 1) (h.fact.third t) right in
       let entry = found.0 in
-      let shown = found.2 in
-      let same = one_split division_count shown.before shown.after h.before (h.after ++ back) shown.item h.item 0 0 (sym shown.parts ∙ whole)
-      (omega (arith, shown.counted, found.1, divisions_total shown.before, divisions_total h.before)) (omega (arith, shown.divides)) (omega (arith, third_divides h.item h.place h.fact.there t)) in
-      let here : IsRight entries h.before (dividend_row h.item) entry.combination
-      = subst (λ b. IsRight entries b (dividend_row h.item) entry.combination) same.0 (subst (λ (x : Item). IsRight entries shown.before (dividend_row x) entry.combination) same.1 shown.right) in
+      let here = right_before entries items h.before (h.after ++ back) h.item entry whole (third_divides h.item h.place h.fact.there t) found.2 found.1 in
       proves_met v (rows (reverse h.before)) (dividend_row h.item) (entry.combination).void (entry.combination).divisor (entry.combination).parts here.0.allowed.0
       (all_usable (MayUse entries h.before) (λ k. Meets v (row_numbered (rows (reverse h.before)) k)) (entry.combination).parts
       (used_met m h.before (h.item ∷ (h.after ++ back)) (omega (arith, l, ap length h.parts, length-append h.before (h.item ∷ h.after))) whole) here.0.usable)

@@ -5,14 +5,13 @@ use Rattle.std.specs.List.{AllByRecursion, flat_map}
 use Rattle.lq_text.specs.Numeral.{place_value, decimal_of}
 use Rattle.lq_linear.specs.Terms.{IsWithin}
 use Rattle.lq_cert.specs.Numeral.{numeral}
-use Rattle.lq_cert.specs.Atom.{IsSubject, subject_text, IsAtom, atom_text}
-use Rattle.lq_cert.specs.Line.{IsTerm, IsLine, term_words, part_word, line_words}
-use Rattle.lq_cert.specs.declared.atom.Subject.{Subject}
-use Rattle.lq_cert.specs.declared.atom.Subject.TheVariants.{Field, Local, Returned}
-use Rattle.lq_cert.specs.declared.atom.Atom.{Atom}
-use Rattle.lq_cert.specs.declared.atom.Atom.TheVariants.{Element, Value, Offset, Length}
-use Rattle.lq_cert.specs.declared.line.Term.{Term}
+use Rattle.lq_cert.specs.Line.{IsTerm, IsLine, version_text, term_words, part_word, line_words}
+use Rattle.lq_text.specs.Atom.{atom_text}
+use Rattle.lq_text.specs.declared.atom.Atom.{Atom}
+use Rattle.lq_text.specs.declared.order.Term.{Term}
 use Rattle.lq_cert.specs.declared.line.Part.{Part}
+use Rattle.lq_cert.specs.declared.line.FileVersion.{FileVersion}
+use Rattle.lq_cert.specs.declared.line.FileVersion.TheVariants.{One, Two}
 use Rattle.lq_cert.specs.declared.line.Line.{Line}
 use Rattle.lq_cert.specs.declared.line.Line.TheVariants.{Version, Row, Condition, Exact, Goal, Void, End}
 use Rattle.lq_cert.specs.Split.{Avoids}
@@ -21,8 +20,7 @@ use Rattle.lq_cert.specs.declared.reading.Keyword.{Keyword}
 use Rattle.lq_cert.specs.declared.reading.Keyword.TheVariants as keyword
 use Rattle.lq_text.proofs.Lists.{all_weaker}
 use Rattle.lq_text.proofs.NumeralLemmas.{one_value_of}
-use Rattle.lq_cert.proofs.AtomLemmas.{unwrapped, no_bracket}
-use Rattle.lq_cert.proofs.NameLemmas.{name_first}
+use Rattle.lq_text.proofs.AtomLemmas.{atom_inject}
 use Rattle.lq_cert.proofs.NumbersLemmas.{text_of_within}
 use Rattle.lq_cert.proofs.NumeralLemmas.{numeral_digits, place_value-numeral}
 use Rattle.lq_cert.proofs.SplitLemmas.{same_split}
@@ -37,45 +35,6 @@ pub decimal_inject : (most : ℕ) (y z : ℤ) → most < 2 ^ 63 → IsWithin mos
 decimal_inject most y z small h k e =
     one_value_of (decimal_of z) y z (text_of_within most y (decimal_of z) small h e).0 (text_of_within most z (decimal_of z) small k refl).0
 
--- ---- atoms
-
-subject_inject : (a b : Subject) → IsSubject a → IsSubject b → subject_text a ≡ subject_text b → a ≡ b
-subject_inject (Field m) (Field n) h k e = let same : m ≡ n = cc in ap Field same
-subject_inject (Field m) (Local n) h k e = absurd (name_first 46 n refl k.0 (ap (λ t. get_or t 0 0) (sym e)))
-subject_inject (Field m) Returned h k e = absurd (omega (arith, ap (λ t. get_or t 0 0) e))
-subject_inject (Local m) (Field n) h k e = absurd (name_first 46 m refl h.0 (ap (λ t. get_or t 0 0) e))
-subject_inject (Local m) (Local n) h k e = ap Local e
-subject_inject (Local m) Returned h k e = absurd (h.3 e)
-subject_inject Returned (Field n) h k e = absurd (omega (arith, ap (λ t. get_or t 0 0) e))
-subject_inject Returned (Local n) h k e = absurd (k.3 (sym e))
-subject_inject Returned Returned h k e = refl
-
--- `@` begins no subject
-no_element : (s : Subject) → IsSubject s → codes "@" ≡ subject_text s → ⊥
-no_element (Field name) h e = omega (arith, ap (λ t. get_or t 0 0) e)
-no_element (Local name) h e = name_first 64 name refl h.0 (ap (λ t. get_or t 0 0) (sym e))
-no_element Returned h e = omega (arith, ap (λ t. get_or t 0 0) e)
-
-pub atom_inject : (a b : Atom) → IsAtom a → IsAtom b → atom_text a ≡ atom_text b → a ≡ b
-atom_inject Element Element h k e = refl
-atom_inject Element (Value t) h k e = absurd (no_element t k e)
-atom_inject Element (Offset t) h k e = absurd (omega (arith, ap (λ t. get_or t 0 0) e))
-atom_inject Element (Length t) h k e = absurd (omega (arith, ap (λ t. get_or t 0 0) e))
-atom_inject (Value s) Element h k e = absurd (no_element s h (sym e))
-atom_inject (Value s) (Value t) h k e = ap Value (subject_inject s t h k e)
-atom_inject (Value s) (Offset t) h k e = absurd (no_bracket s (codes "off") (subject_text t ++ codes ")") h e)
-atom_inject (Value s) (Length t) h k e = absurd (no_bracket s (codes "len") (subject_text t ++ codes ")") h e)
-atom_inject (Offset s) Element h k e = absurd (omega (arith, ap (λ t. get_or t 0 0) e))
-atom_inject (Offset s) (Value t) h k e = absurd (no_bracket t (codes "off") (subject_text s ++ codes ")") k (sym e))
-atom_inject (Offset s) (Offset t) h k e =
-    ap Offset (subject_inject s t h k (unwrapped (codes "off(") (subject_text s) (subject_text t) e))
-atom_inject (Offset s) (Length t) h k e = absurd (omega (arith, ap (λ t. get_or t 0 0) e))
-atom_inject (Length s) Element h k e = absurd (omega (arith, ap (λ t. get_or t 0 0) e))
-atom_inject (Length s) (Value t) h k e = absurd (no_bracket t (codes "len") (subject_text s ++ codes ")") k (sym e))
-atom_inject (Length s) (Offset t) h k e = absurd (omega (arith, ap (λ t. get_or t 0 0) e))
-atom_inject (Length s) (Length t) h k e =
-    ap Length (subject_inject s t h k (unwrapped (codes "len(") (subject_text s) (subject_text t) e))
-
 -- ---- terms and parts
 
 same_term : (a b : Term) → a.coefficient ≡ b.coefficient → a.atom ≡ b.atom → a ≡ b
@@ -85,7 +44,7 @@ same_term a b e f =
 
 term_inject : (a b : Term) → IsTerm a → IsTerm b → decimal_of a.coefficient ≡ decimal_of b.coefficient → atom_text a.atom ≡ atom_text b.atom → a ≡ b
 term_inject a b h k e f =
-    same_term a b (decimal_inject (2 ^ 16) a.coefficient b.coefficient (omega arith) h.0.within k.0.within e) (atom_inject a.atom b.atom h.1 k.1 f)
+    same_term a b (decimal_inject (2 ^ 16) a.coefficient b.coefficient (omega arith) h.0.within k.0.within e) (atom_inject a.atom b.atom h.1.0 k.1.0 f)
 
 pub terms_inject : (a b : List Term) → AllByRecursion IsTerm a → AllByRecursion IsTerm b → flat_map term_words a ≡ flat_map term_words b → a ≡ b
 terms_inject [] [] h k e = refl
@@ -154,6 +113,10 @@ pub row_of : (line : Line) (words : List (List ℕ)) → line_words line ≡ cod
 row_of (Row template terms most) words e = record { template = template; terms = terms; most = most; row = refl; words_are = cc }
 row_of _ words e = absurd (omega (arith, ap key e))
 
+pub version_of : (line : Line) (words : List (List ℕ)) → line_words line ≡ codes "proof" ∷ words → (version : FileVersion) × (version_text version ∷ [] ≡ words)
+version_of (Version version) words e = (version, cc)
+version_of _ words e = absurd (omega (arith, ap key e))
+
 pub exact_of : (line : Line) (words : List (List ℕ)) → IsLine line → line_words line ≡ codes "exact" ∷ words → (c : Consequence) × IsWritten c × (consequence_words c ≡ words)
 exact_of (Exact item divisor parts) words h e = ((item, divisor, parts), h, cc)
 exact_of _ words h e = absurd (omega (arith, ap key e))
@@ -164,7 +127,7 @@ goal_of _ words h e = absurd (omega (arith, ap key e))
 
 -- each line begins with a keyword
 pub keyword_of : (line : Line) → (word : Keyword) × (words : List (List ℕ)) × (line_words line ≡ keyword_text word ∷ words)
-keyword_of Version = (keyword.Proof, codes "1" ∷ [], refl)
+keyword_of (Version version) = (keyword.Proof, version_text version ∷ [], refl)
 keyword_of (Row template terms most) = (keyword.Row, row_words template terms most, refl)
 keyword_of (Condition number) = (keyword.Cond, numeral number ∷ [], refl)
 keyword_of (Exact item divisor parts) = (keyword.Exact, consequence_words (item, divisor, parts), refl)
@@ -189,10 +152,16 @@ consequence_inject m n d e a b same =
     let parts : map part_word a ≡ map part_word b = cc in
     (numeral_inject m n number, numeral_inject d e divisor, parts_inject a b parts)
 
+version_inject : (a b : FileVersion) → version_text a ≡ version_text b → a ≡ b
+version_inject One One e = refl
+version_inject One Two e = absurd (omega (arith, ap (λ t. get_or t 0 0) e))
+version_inject Two One e = absurd (omega (arith, ap (λ t. get_or t 0 0) e))
+version_inject Two Two e = refl
+
 -- no two lines have the same words
 pub words_inject : (a b : Line) → IsLine a → IsLine b → line_words a ≡ line_words b → a ≡ b
-words_inject Version Version h k e = refl
-words_inject Version _ h k e = absurd (omega (arith, ap key e))
+words_inject (Version a) (Version b) h k e = let same : version_text a ≡ version_text b = cc in ap Version (version_inject a b same)
+words_inject (Version a) _ h k e = absurd (omega (arith, ap key e))
 words_inject (Row m a y) (Row n b z) h k e =
     let same : row_words m a y ≡ row_words n b z = cc in
     row_inject m n a b y z h.1.are_terms k.1.are_terms h.2 k.2 same

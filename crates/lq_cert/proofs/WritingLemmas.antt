@@ -10,7 +10,7 @@ use Rattle.lq_cert.specs.Numeral.{numeral}
 use Rattle.lq_cert.specs.Line.{term_words, part_word, line_text}
 use Rattle.lq_cert.specs.Reading.{consequence_words}
 use Rattle.lq_cert.specs.Writing.{spaced}
-use Rattle.lq_cert.specs.declared.line.Term.{Term}
+use Rattle.lq_text.specs.declared.order.Term.{Term}
 use Rattle.lq_cert.specs.declared.line.Part.{Part}
 use Rattle.lq_cert.specs.declared.line.Line.{Line}
 use Rattle.lq_cert.specs.declared.line.Line.TheVariants.{Row, Exact, Goal, Void}

@@ -1,11 +1,9 @@
 pub mod Right
 pub mod Located
-pub mod Reads
 pub mod Numeral
 pub mod Split
-pub mod Name
-pub mod Atom
 pub mod Line
 pub mod Reading
 pub mod Writing
 pub mod ProofFile
+pub mod Renewal

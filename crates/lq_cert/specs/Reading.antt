@@ -4,7 +4,7 @@ use Rattle.std.specs.Borrow.{Bor}
 use Rattle.lq_cert.specs.Numeral.{numeral}
 use Rattle.lq_cert.specs.Right.{IsAllowed}
 use Rattle.lq_cert.specs.Line.{AreParts, IsLine, part_word, line_words}
-use Rattle.lq_cert.specs.Reads.{Reads}
+use Rattle.lq_text.specs.Reads.{Reads}
 use Rattle.lq_cert.specs.declared.line.Part.{Part}
 use Rattle.lq_cert.specs.declared.line.Line.{Line}
 use Rattle.lq_cert.specs.declared.reading.Keyword.{Keyword}

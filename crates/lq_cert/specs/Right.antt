@@ -1,6 +1,7 @@
 -- Which certificates are right. Items stand in the order in which they became known.
-use Rattle.std.specs.Prelude.{◌≡◌, ℕ, ◌+◌, ◌^◌, ◌<◌, ◌≤◌, ◌⊎◌, false, List, [], ◌∷◌, ◌++◌, length, reverse}
+use Rattle.std.specs.Prelude.{◌≡◌, ℕ, ◌+◌, ◌^◌, ◌≤◌, ◌⊎◌, false, List, [], ◌∷◌, ◌++◌, length, reverse}
 use Rattle.std.specs.List.{AllByRecursion}
+use Rattle.lq_linear.specs.Ascend.{AscendBy}
 use Rattle.lq_linear.specs.Row.{Inequality}
 use Rattle.lq_linear.specs.Item.{rows, dividend_row}
 use Rattle.lq_linear.specs.Derivation.{Combination, IsCombination, IsMultiplier, Proves, IsRowFact}
@@ -28,9 +29,9 @@ pub record MayUse (entries : List Exactness) (items : List Item) (number : ℕ) 
   pub counted : number ≡ length (rows (reverse before)) + place + 1
   pub fact : IsRowFact item place (HasEntry entries (divisions (reverse before) + 1))
 
--- a right combination of at most 64 rows that may be used
+-- a right combination of at most 256 rows that may be used
 abbrev pub IsRight : List Exactness → List Item → Inequality → Combination → Type 0
-IsRight entries items goal c = IsCombination 64 IsAllowed (MayUse entries items) c × Proves (rows (reverse items)) goal c
+IsRight entries items goal c = IsCombination 256 IsAllowed (MayUse entries items) c × Proves (rows (reverse items)) goal c
 
 -- an entry is right: the rows before its item show, and not by a contradiction, that the dividend isn't negative
 pub record IsRightEntry (entries : List Exactness) (items : List Item) (entry : Exactness) : Type 0 where
@@ -45,8 +46,7 @@ pub record IsRightEntry (entries : List Exactness) (items : List Item) (entry : 
 
 -- the entries ascend by their item
 abbrev pub EntriesAscend : List Exactness → Type 0
-EntriesAscend [] = Unit {0}
-EntriesAscend (entry ∷ entries) = AllByRecursion (λ later. entry.item < later.item) entries × EntriesAscend entries
+EntriesAscend entries = AscendBy (λ entry. entry.item) entries
 
 -- the certificate shows that the items give the goal
 pub record IsRightCertificate (items : List Item) (goal : Inequality) (certificate : Certificate) : Type 0 where

@@ -11,12 +11,13 @@ ghost use Rattle.lq_cert.specs.Located.{AreRightParts};
 use crate::locate::{count_divisions, division_at, locate};
 use lq_linear::{
     Cert, Combo, Exact, Facts, Item, LooseRow, MOST_PARTS, Row, is_consequence, is_contradiction,
+    is_row_fact,
 };
 
 /// How large a multiplier or divisor of a certificate may be.
 pub const MOST_MULTIPLIER: u32 = 1_048_576;
 
-/// Tells whether a certificate is right: whether it shows that the facts give the goal
+/// Whether a certificate is right: whether it shows that the facts give the goal
 /// (docs/PROOF-FILE.md, "Combinations" and "Exact lines").
 pub fn check_cert(facts: &Facts, goal: &Row, cert: &Cert) -> bool
     ensures { IsTrue result ↔ IsRightCertificate facts.now.items goal.now cert.now }
@@ -26,7 +27,7 @@ pub fn check_cert(facts: &Facts, goal: &Row, cert: &Cert) -> bool
     are_right_entries(items, exacts) && is_right(items, exacts, &cert.goal, &LooseRow::of(goal))
 }
 
-/// Tells whether the entries ascend by their item, and each is right.
+// Whether the entries ascend by their item, and each is right.
 fn are_right_entries(items: &[Item], exacts: &[Exact]) -> bool
     ensures { IsTrue result ↔ (EntriesAscend exacts.now
         × AllByRecursion (IsRightEntry exacts.now items.now) exacts.now) }
@@ -41,7 +42,7 @@ fn are_right_entries(items: &[Item], exacts: &[Exact]) -> bool
     true
 }
 
-/// The number of the entry's item.
+// The number of the entry's item.
 fn item_of(exact: &Exact) -> u64
     ensures item { result ≡ exact.now.item }
     ensures within { result < 2 ^ 32 }
@@ -49,7 +50,7 @@ fn item_of(exact: &Exact) -> u64
     u64::from(exact.item)
 }
 
-/// Tells whether an entry is right.
+// Whether an entry is right.
 fn is_right_entry(items: &[Item], exacts: &[Exact], exact: &Exact) -> bool
     ensures { IsTrue result ↔ IsRightEntry exacts.now items.now exact.now }
 {
@@ -64,7 +65,7 @@ fn is_right_entry(items: &[Item], exacts: &[Exact], exact: &Exact) -> bool
     }
 }
 
-/// Tells whether a combination is right.
+// Whether a combination is right.
 fn is_right(items: &[Item], exacts: &[Exact], combo: &Combo, goal: &LooseRow) -> bool
     ensures { IsTrue result ↔ IsRight exacts.now items.now goal.now combo.now }
 {
@@ -76,8 +77,8 @@ fn is_right(items: &[Item], exacts: &[Exact], combo: &Combo, goal: &LooseRow) ->
         && proves(items, parts, divisor, combo.void, goal)
 }
 
-/// Tells whether the numbers of the parts ascend, their multipliers are allowed, and their rows may
-/// be used.
+// Whether the numbers of the parts ascend, their multipliers are allowed, and their rows may
+// be used.
 fn are_right_parts(items: &[Item], exacts: &[Exact], parts: &[(u32, u32)]) -> bool
     ensures { IsTrue result ↔ AreRightParts exacts.now items.now parts.now }
 {
@@ -94,16 +95,16 @@ fn are_right_parts(items: &[Item], exacts: &[Exact], parts: &[(u32, u32)]) -> bo
     true
 }
 
-/// Tells whether a number may be a multiplier or divisor.
+// Whether a number may be a multiplier or divisor.
 fn is_allowed(number: u32) -> bool
     ensures { IsTrue result ↔ IsAllowed number }
 {
     1 <= number && number <= MOST_MULTIPLIER
 }
 
-/// Tells whether the multiples of the rows give the goal.
+// Whether the multiples of the rows give the goal.
 fn proves(items: &[Item], parts: &[(u32, u32)], divisor: u32, void: bool, goal: &LooseRow) -> bool
-    requires few { length parts.now ≤ 64 }
+    requires few { length parts.now ≤ 256 }
     requires positive { 1 ≤ divisor }
     ensures { IsTrue result ↔ Proves (rows (reverse items.now)) goal.now
         (record { void = void; divisor = divisor; parts = parts.now }) }
@@ -115,7 +116,7 @@ fn proves(items: &[Item], parts: &[(u32, u32)], divisor: u32, void: bool, goal: 
     }
 }
 
-/// Tells whether the row with this number may be used.
+// Whether the row with this number may be used.
 fn may_use(items: &[Item], exacts: &[Exact], number: u32) -> bool
     ensures { IsTrue result ↔ MayUse exacts.now items.now number }
 {
@@ -128,18 +129,7 @@ fn may_use(items: &[Item], exacts: &[Exact], number: u32) -> bool
     }
 }
 
-/// Tells whether a row of the item may be used, where `exact` says whether a third row may.
-fn is_row_fact(item: &Item, place: usize, exact: bool) -> bool
-    ensures { IsTrue result ↔ (IsBounded (slice_index_or (rows_of item.now) place nothing)
-        × (place ≡ 2 → exact ≡ true)) }
-{
-    if place == 2 && !exact {
-        return false;
-    }
-    item.row(place).is_bounded()
-}
-
-/// Tells whether there is an entry for the division or remainder with this number.
+// Whether there is an entry for the division or remainder with this number.
 fn has_entry(exacts: &[Exact], number: usize) -> bool
     ensures { IsTrue result ↔ HasEntry exacts.now number }
 {

@@ -1,15 +1,11 @@
 //! Lines of proof files.
 
-use crate::atom::Atom;
-use crate::numeral::Numeral;
-use sqlite_items::Items;
+ghost use Rattle.std.specs.Prelude.{◌≡◌};
+ghost use Rattle.lq_cert.specs.Line.{fact_count};
 
-/// A multiple of an atom.
-#[derive(Debug, Drop)]
-pub struct Term {
-    pub coefficient: i64,
-    pub atom: Atom,
-}
+use crate::numeral::Numeral;
+use lq_text::Term;
+use sqlite_items::Items;
 
 /// A multiple of a fact.
 #[derive(Debug, Drop)]
@@ -19,12 +15,19 @@ pub struct Part {
     pub fact: Numeral,
 }
 
+/// A version of proof files (docs/PROOF-FILE.md, "Versions").
+#[derive(Clone, Copy, Debug, PartialEq, Eq)]
+pub enum FileVersion {
+    One,
+    Two,
+}
+
 /// A line of a proof file (docs/PROOF-FILE.md, "Lines"). Templates, conditions, divisions, goals
 /// and facts are numbered from 1.
 #[derive(Debug, Drop)]
 pub enum Line {
-    /// The version.
-    Version,
+    /// The version of the file.
+    Version(FileVersion),
     /// The template keeps the row that the sum of the terms is at most this.
     Row {
         template: Numeral,
@@ -52,4 +55,15 @@ pub enum Line {
     },
     /// The last line.
     End,
+}
+
+// How many facts a line combines.
+pub(crate) fn fact_count(line: &Line) -> usize
+    ensures { result ≡ fact_count line.now }
+{
+    match line {
+        Line::Exact { parts, .. } | Line::Goal { parts, .. } | Line::Void { parts, .. } =>
+            parts.len(),
+        _ => 0,
+    }
 }

@@ -7,7 +7,7 @@ ghost use Rattle.lq_validity.specs.Derives.{division_count as division_count_of,
 
 use lq_linear::Item;
 
-/// The item that the row with this number, from 1, belongs to, and the row's place in it.
+// The item that the row with this number, from 1, belongs to, and the row's place in it.
 pub(crate) fn locate(items: &[Item], number: u32) -> Option<(usize, usize)>
     ensures { MatchOption result (NoRow items.now number) (λ found. IsRowAt items.now number found.0 found.1) }
 {
@@ -25,7 +25,7 @@ pub(crate) fn locate(items: &[Item], number: u32) -> Option<(usize, usize)>
     None
 }
 
-/// How many divisions and remainders there are.
+// How many divisions and remainders there are.
 pub(crate) fn count_divisions(items: &[Item]) -> usize
     ensures { result ≡ divisions (reverse items.now) }
 {
@@ -36,7 +36,7 @@ pub(crate) fn count_divisions(items: &[Item]) -> usize
     count
 }
 
-/// How many divisions and remainders an item is.
+// How many divisions and remainders an item is.
 pub(crate) fn division_count(item: &Item) -> usize
     ensures { result ≡ division_count_of item.now }
 {
@@ -46,7 +46,7 @@ pub(crate) fn division_count(item: &Item) -> usize
     }
 }
 
-/// The place of the division or remainder with this number, from 1.
+// The place of the division or remainder with this number, from 1.
 pub(crate) fn division_at(items: &[Item], number: u32) -> Option<usize>
     ensures { MatchOption result (NoDivision items.now number) (IsDivisionAt items.now number) }
 {

@@ -2,9 +2,10 @@
 
 ghost use Rattle.std.specs.Prelude.{◌≡◌, ◌↔◌, ◌≤◌, ◌<◌, ◌^◌, IsTrue, IfOk};
 ghost use Rattle.std.specs.Option.{SomeIff};
-ghost use Rattle.lq_cert.specs.Reads.{Reads};
+ghost use Rattle.lq_text.specs.Reads.{Reads};
 ghost use Rattle.lq_cert.specs.Numeral.{numeral, IsNatural};
 
+use crate::copy::Copied;
 use lq_text::read_number;
 use std::alloc::{AllocError, Global};
 use std::marker::Model;
@@ -67,7 +68,14 @@ impl Numeral {
     }
 }
 
-/// Tells whether a text is a decimal number from 1 without needless zeros.
+impl Copied for Numeral {
+    fn copy(&self, alloc: Global) -> Result<Numeral, AllocError> {
+        let digits = Vec::from_slice(alloc, self.digits.as_slice())?;
+        Ok(Numeral { digits })
+    }
+}
+
+// Whether a text is a decimal number from 1 without needless zeros.
 pub(crate) fn is_natural(text: &[u8]) -> bool
     ensures { IsTrue result ↔ IsNatural text.now }
 {

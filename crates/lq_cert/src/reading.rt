@@ -2,23 +2,23 @@
 
 ghost use Rattle.std.specs.Prelude.{◌≡◌, ◌↔◌, ◌≤◌, ◌∷◌, codes, length, map, IsTrue, IfOk};
 ghost use Rattle.std.specs.List.{AllByRecursion, flat_map};
-ghost use Rattle.lq_cert.specs.Atom.{AreInOrder};
-ghost use Rattle.lq_cert.specs.Line.{IsTerm, AreRowTerms, IsPart, AreParts, IsLine, term_words, part_word, line_words, line_text};
-ghost use Rattle.lq_cert.specs.Reads.{Reads};
+ghost use Rattle.lq_text.specs.Atom.{atom_text};
+ghost use Rattle.lq_text.specs.Order.{AreInOrder};
+ghost use Rattle.lq_cert.specs.Line.{IsRowAtom, IsTerm, AreRowTerms, IsPart, AreParts, IsLine, version_text, term_words, part_word, line_words, line_text};
+ghost use Rattle.lq_text.specs.Reads.{Reads};
 ghost use Rattle.lq_cert.specs.Reading.{texts_of, keyword_text, ReadsBehind, IsWritten, consequence_words};
 ghost use Rattle.lq_cert.specs.declared.reading.Keyword.TheVariants as keyword;
 
-use crate::atom::read_atom;
-use crate::line::{Line, Part, Term};
+use crate::line::{FileVersion, Line, Part};
 use crate::numbers::{read_coefficient, read_constant, read_multiplier};
 use crate::numeral::Numeral;
-use crate::order::are_in_order;
 use crate::split::{split_once, words_of};
 use lq_linear::{MOST_PARTS, MOST_SYMBOLS};
+use lq_text::{Atom, Term, are_in_order, read_atom};
 use sqlite_items::Items;
 use std::alloc::{AllocError, Global};
 
-/// The first word of a line.
+// The first word of a line.
 #[derive(Clone, Copy)]
 enum Keyword {
     Proof,
@@ -30,7 +30,7 @@ enum Keyword {
     End,
 }
 
-/// The line that a text spells (docs/PROOF-FILE.md, "Lines").
+// The line that a text spells (docs/PROOF-FILE.md, "Lines").
 pub(crate) fn read_line(alloc: Global, text: &[u8]) -> Result<Option<Line>, AllocError>
     ensures { IfOk result (Reads IsLine line_text text.now) }
 {
@@ -38,7 +38,7 @@ pub(crate) fn read_line(alloc: Global, text: &[u8]) -> Result<Option<Line>, Allo
     read_words(alloc, &words)
 }
 
-/// The line with these words.
+// The line with these words.
 fn read_words(alloc: Global, words: &[&[u8]]) -> Result<Option<Line>, AllocError>
     ensures { IfOk result (Reads IsLine line_words (texts_of words.now)) }
 {
@@ -57,7 +57,7 @@ fn read_words(alloc: Global, words: &[&[u8]]) -> Result<Option<Line>, AllocError
     }
 }
 
-/// The keyword that a word is.
+// The keyword that a word is.
 fn keyword_of(word: &[u8]) -> Option<Keyword>
     ensures { Reads (λ _. Unit {0}) keyword_text word.now result }
 {
@@ -73,17 +73,28 @@ fn keyword_of(word: &[u8]) -> Option<Keyword>
     }
 }
 
-/// The first line of a file.
+// The line that tells the version.
 fn read_version(words: &[&[u8]]) -> Option<Line>
     ensures { ReadsBehind keyword.Proof (texts_of words.now) result }
 {
-    match words {
-        [version] if *version == b"1".as_slice() => Some(Line::Version),
+    let [version] = words else {
+        return None;
+    };
+    version_of(version).map(Line::Version)
+}
+
+// The version that a word is.
+fn version_of(word: &[u8]) -> Option<FileVersion>
+    ensures { Reads (λ _. Unit {0}) version_text word.now result }
+{
+    match word {
+        b"1" => Some(FileVersion::One),
+        b"2" => Some(FileVersion::Two),
         _ => None,
     }
 }
 
-/// The line that says that a template keeps a row.
+// The line that says that a template keeps a row.
 fn read_row(alloc: Global, words: &[&[u8]]) -> Result<Option<Line>, AllocError>
     ensures { IfOk result (ReadsBehind keyword.Row (texts_of words.now)) }
 {
@@ -109,7 +120,7 @@ fn read_row(alloc: Global, words: &[&[u8]]) -> Result<Option<Line>, AllocError>
     }))
 }
 
-/// The terms of a row.
+// The terms of a row.
 fn read_row_terms(alloc: Global, words: &[&[u8]]) -> Result<Option<Items<Term>>, AllocError>
     ensures { IfOk result (Reads AreRowTerms (flat_map term_words) (texts_of words.now)) }
 {
@@ -122,7 +133,7 @@ fn read_row_terms(alloc: Global, words: &[&[u8]]) -> Result<Option<Items<Term>>,
     Ok(Some(terms))
 }
 
-/// Tells whether terms are as many as a row has, and in order.
+// Whether terms are as many as a row has, and in order.
 fn may_be_row(terms: &[Term]) -> bool
     ensures { IsTrue result ↔ ((1 ≤ length terms.now) × (length terms.now ≤ 16)
         × AreInOrder (map (λ term. term.atom) terms.now)) }
@@ -130,7 +141,7 @@ fn may_be_row(terms: &[Term]) -> bool
     !terms.is_empty() && terms.len() <= MOST_SYMBOLS && are_in_order(terms)
 }
 
-/// The terms that words are.
+// The terms that words are.
 fn read_terms(alloc: Global, words: &[&[u8]]) -> Result<Option<Items<Term>>, AllocError>
     ensures { IfOk result (Reads (AllByRecursion IsTerm) (flat_map term_words) (texts_of words.now)) }
 {
@@ -140,7 +151,7 @@ fn read_terms(alloc: Global, words: &[&[u8]]) -> Result<Option<Items<Term>>, All
         let Some(coefficient) = read_coefficient(coefficient) else {
             return Ok(None);
         };
-        let Some(atom) = read_atom(alloc, atom)? else {
+        let Some(atom) = read_row_atom(alloc, atom)? else {
             return Ok(None);
         };
         terms.push(Term { coefficient, atom })?;
@@ -153,7 +164,20 @@ fn read_terms(alloc: Global, words: &[&[u8]]) -> Result<Option<Items<Term>>, All
     }
 }
 
-/// The line that begins a condition.
+// The atom of a row that a word is.
+fn read_row_atom(alloc: Global, word: &[u8]) -> Result<Option<Atom>, AllocError>
+    ensures { IfOk result (Reads IsRowAtom atom_text word.now) }
+{
+    let Some(atom) = read_atom(alloc, word)? else {
+        return Ok(None);
+    };
+    if atom.has_placeholder() {
+        return Ok(None);
+    }
+    Ok(Some(atom))
+}
+
+// The line that begins a condition.
 fn read_condition(alloc: Global, words: &[&[u8]]) -> Result<Option<Line>, AllocError>
     ensures { IfOk result (ReadsBehind keyword.Cond (texts_of words.now)) }
 {
@@ -164,7 +188,7 @@ fn read_condition(alloc: Global, words: &[&[u8]]) -> Result<Option<Line>, AllocE
     Ok(number.map(Line::Condition))
 }
 
-/// The line that says that a dividend is not negative.
+// The line that says that a dividend is not negative.
 fn read_exact(alloc: Global, words: &[&[u8]]) -> Result<Option<Line>, AllocError>
     ensures { IfOk result (ReadsBehind keyword.Exact (texts_of words.now)) }
 {
@@ -178,7 +202,7 @@ fn read_exact(alloc: Global, words: &[&[u8]]) -> Result<Option<Line>, AllocError
     }))
 }
 
-/// The line that says that a goal follows as a consequence.
+// The line that says that a goal follows as a consequence.
 fn read_goal(alloc: Global, words: &[&[u8]]) -> Result<Option<Line>, AllocError>
     ensures { IfOk result (ReadsBehind keyword.Goal (texts_of words.now)) }
 {
@@ -192,7 +216,7 @@ fn read_goal(alloc: Global, words: &[&[u8]]) -> Result<Option<Line>, AllocError>
     }))
 }
 
-/// The number, the divisor and the parts of a consequence.
+// The number, the divisor and the parts of a consequence.
 fn read_consequence(
     alloc: Global,
     words: &[&[u8]],
@@ -214,7 +238,7 @@ fn read_consequence(
     Ok(Some((number, divisor, parts)))
 }
 
-/// The line that says that a goal follows from a contradiction.
+// The line that says that a goal follows from a contradiction.
 fn read_void(alloc: Global, words: &[&[u8]]) -> Result<Option<Line>, AllocError>
     ensures { IfOk result (ReadsBehind keyword.Void (texts_of words.now)) }
 {
@@ -230,7 +254,7 @@ fn read_void(alloc: Global, words: &[&[u8]]) -> Result<Option<Line>, AllocError>
     Ok(Some(Line::Void { goal, parts }))
 }
 
-/// The parts that words are.
+// The parts that words are.
 fn read_parts(alloc: Global, words: &[&[u8]]) -> Result<Option<Items<Part>>, AllocError>
     ensures { IfOk result (Reads AreParts (map part_word) (texts_of words.now)) }
 {
@@ -247,7 +271,7 @@ fn read_parts(alloc: Global, words: &[&[u8]]) -> Result<Option<Items<Part>>, All
     Ok(Some(parts))
 }
 
-/// The part that a word is.
+// The part that a word is.
 fn read_part(alloc: Global, word: &[u8]) -> Result<Option<Part>, AllocError>
     ensures { IfOk result (Reads IsPart part_word word.now) }
 {
@@ -263,7 +287,7 @@ fn read_part(alloc: Global, word: &[u8]) -> Result<Option<Part>, AllocError>
     Ok(Some(Part { multiplier, fact }))
 }
 
-/// The last line of a file.
+// The last line of a file.
 fn read_end(words: &[&[u8]]) -> Option<Line>
     ensures { ReadsBehind keyword.End (texts_of words.now) result }
 {

@@ -24,7 +24,7 @@ fn consequence(alloc: Global, divisor: u32, parts: &[(u32, u32)]) -> Result<Comb
     })
 }
 
-/// x is 7, y is 7 too, and q, the symbol 1, is the quotient of x by 3. Its rows have the numbers 4 to 6.
+// x is 7, y is 7 too, and q, the symbol 1, is the quotient of x by 3. Its rows have the numbers 4 to 6.
 fn known(alloc: Global) -> Result<Facts, Fail> {
     let mut items = Vec::new(alloc);
     items.push(Item::Holds(row(alloc, &[(0, 1)], 7)?))?;
@@ -41,8 +41,8 @@ fn known(alloc: Global) -> Result<Facts, Fail> {
     })
 }
 
-/// The entry for the division, if there is one, the combination for the goal, the goal, and whether
-/// the certificate is right.
+// The entry for the division, if there is one, the combination for the goal, the goal, and whether
+// the certificate is right.
 #[derive(Clone, Copy)]
 struct Case {
     entry: Option<(u32, Parts)>,
@@ -174,6 +174,34 @@ fn rounds_down(rt: HostRuntime) -> Result<(), Fail> {
     for (most, right) in [(2, true), (1, false)] {
         let wanted = row(rt.alloc(), &[(0, 1)], most)?;
         assert_eq!(rt; check_cert(&facts, &wanted, &cert), right, "at most {most}");
+    }
+    Ok(())
+}
+
+// A combination has at most 256 facts: here each says that x is at most 1.
+#[test]
+fn counts_facts(rt: HostRuntime) -> Result<(), Fail> {
+    for (end, right) in [(257u32, true), (258, false)] {
+        let mut items = Vec::new(rt.alloc());
+        let mut parts = Vec::new(rt.alloc());
+        for number in 1..end {
+            items.push(Item::Holds(row(rt.alloc(), &[(0, 1)], 1)?))?;
+            parts.push((1, number))?;
+        }
+        let cert = Cert {
+            exacts: Items::new(rt.alloc()),
+            goal: consequence(rt.alloc(), 1, parts.as_slice())?,
+        };
+        let most = i64::from(end) - 1;
+        let facts = Facts {
+            items: Items::from_vec(items),
+        };
+        let wanted = row(rt.alloc(), &[(0, most)], most)?;
+        assert_eq!(rt;
+            check_cert(&facts, &wanted, &cert),
+            right,
+            "at {most} facts"
+        );
     }
     Ok(())
 }

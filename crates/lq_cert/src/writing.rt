@@ -4,24 +4,23 @@
 ghost use Rattle.std.specs.Prelude.{◌≡◌, ◌∷◌, ◌++◌, map, OnOk};
 ghost use Rattle.std.specs.List.{flat_map};
 ghost use Rattle.lq_cert.specs.Numeral.{numeral};
-ghost use Rattle.lq_cert.specs.Atom.{subject_text, atom_text};
 ghost use Rattle.lq_cert.specs.Line.{term_words, part_word, line_text};
 ghost use Rattle.lq_cert.specs.Reading.{consequence_words};
 ghost use Rattle.lq_cert.specs.Writing.{spaced};
 ghost use Rattle.lq_cert.specs.declared.line.Line.TheVariants.{Row};
 
-use crate::atom::{Atom, Subject};
-use crate::line::{Line, Part, Term};
+use crate::line::{FileVersion, Line, Part};
 use crate::numeral::Numeral;
-use lq_text::put_number;
+use lq_text::{Term, put_atom, put_number};
 use std::alloc::AllocError;
 
-/// Appends the text of a line, without its line feed (docs/PROOF-FILE.md, "Lines").
+// Appends the text of a line, without its line feed (docs/PROOF-FILE.md, "Lines").
 pub(crate) fn put_line(out: &mut Vec<u8>, line: &Line) -> Result<(), AllocError>
     ensures { OnOk result (out.new.items ≡ out.old.items ++ line_text line.now) }
 {
     match line {
-        Line::Version => out.extend_from_slice(b"proof 1"),
+        Line::Version(FileVersion::One) => out.extend_from_slice(b"proof 1"),
+        Line::Version(FileVersion::Two) => out.extend_from_slice(b"proof 2"),
         Line::Row {
             template,
             terms,
@@ -46,7 +45,7 @@ pub(crate) fn put_line(out: &mut Vec<u8>, line: &Line) -> Result<(), AllocError>
     }
 }
 
-/// Appends the line of a row.
+// Appends the line of a row.
 fn put_row(
     out: &mut Vec<u8>,
     template: &Numeral,
@@ -61,7 +60,7 @@ fn put_row(
     put_number(out, most)
 }
 
-/// Appends terms.
+// Appends terms.
 fn put_terms(out: &mut Vec<u8>, terms: &[Term]) -> Result<(), AllocError>
     ensures { OnOk result (out.new.items ≡ out.old.items ++ spaced (flat_map term_words terms.now)) }
 {
@@ -71,7 +70,7 @@ fn put_terms(out: &mut Vec<u8>, terms: &[Term]) -> Result<(), AllocError>
     Ok(())
 }
 
-/// Appends a term.
+// Appends a term.
 fn put_term(out: &mut Vec<u8>, term: &Term) -> Result<(), AllocError>
     ensures { OnOk result (out.new.items ≡ out.old.items ++ spaced (term_words term.now)) }
 {
@@ -81,41 +80,7 @@ fn put_term(out: &mut Vec<u8>, term: &Term) -> Result<(), AllocError>
     put_atom(out, &term.atom)
 }
 
-/// Appends an atom.
-fn put_atom(out: &mut Vec<u8>, atom: &Atom) -> Result<(), AllocError>
-    ensures { OnOk result (out.new.items ≡ out.old.items ++ atom_text atom.now) }
-{
-    match atom {
-        Atom::Element => out.extend_from_slice(b"@"),
-        Atom::Value(subject) => put_subject(out, subject),
-        Atom::Offset(subject) => {
-            out.extend_from_slice(b"off(")?;
-            put_subject(out, subject)?;
-            out.extend_from_slice(b")")
-        }
-        Atom::Length(subject) => {
-            out.extend_from_slice(b"len(")?;
-            put_subject(out, subject)?;
-            out.extend_from_slice(b")")
-        }
-    }
-}
-
-/// Appends a subject.
-fn put_subject(out: &mut Vec<u8>, subject: &Subject) -> Result<(), AllocError>
-    ensures { OnOk result (out.new.items ≡ out.old.items ++ subject_text subject.now) }
-{
-    match subject {
-        Subject::Field(name) => {
-            out.push(b'.')?;
-            out.extend_from_slice(name.as_bytes())
-        }
-        Subject::Local(name) => out.extend_from_slice(name.as_bytes()),
-        Subject::Returned => out.extend_from_slice(b"result"),
-    }
-}
-
-/// Appends a keyword and what shows a consequence.
+// Appends a keyword and what shows a consequence.
 fn put_consequence(
     out: &mut Vec<u8>,
     keyword: &[u8],
@@ -132,7 +97,7 @@ fn put_consequence(
     put_parts(out, parts)
 }
 
-/// Appends a keyword and a number.
+// Appends a keyword and a number.
 fn put_numbered(out: &mut Vec<u8>, keyword: &[u8], number: &Numeral) -> Result<(), AllocError>
     ensures { OnOk result (out.new.items ≡ out.old.items ++ (keyword.now ++ 32 ∷ numeral number.now)) }
 {
@@ -141,7 +106,7 @@ fn put_numbered(out: &mut Vec<u8>, keyword: &[u8], number: &Numeral) -> Result<(
     out.extend_from_slice(number.as_bytes())
 }
 
-/// Appends parts.
+// Appends parts.
 fn put_parts(out: &mut Vec<u8>, parts: &[Part]) -> Result<(), AllocError>
     ensures { OnOk result (out.new.items ≡ out.old.items ++ spaced (map part_word parts.now)) }
 {
@@ -151,7 +116,7 @@ fn put_parts(out: &mut Vec<u8>, parts: &[Part]) -> Result<(), AllocError>
     Ok(())
 }
 
-/// Appends a part.
+// Appends a part.
 fn put_part(out: &mut Vec<u8>, part: &Part) -> Result<(), AllocError>
     ensures { OnOk result (out.new.items ≡ out.old.items ++ 32 ∷ part_word part.now) }
 {
@@ -161,7 +126,7 @@ fn put_part(out: &mut Vec<u8>, part: &Part) -> Result<(), AllocError>
     out.extend_from_slice(part.fact.as_bytes())
 }
 
-/// Appends a multiplier or divisor.
+// Appends a multiplier or divisor.
 fn put_multiplier(out: &mut Vec<u8>, number: u32) -> Result<(), AllocError>
     ensures { OnOk result (out.new.items ≡ out.old.items ++ numeral number) }
 {

@@ -55,11 +55,12 @@ one_collected (t ∷ a) (u ∷ b) p q h = elim (cases_order t.0 u.0) [
 pub terms_collected : (terms : List Term) → AreTerms terms → IsCollected terms
 terms_collected terms h = record { ascending = h.ascending; no_zero = all_map (λ t. IsCoefficient t.1) (λ t. t.1 ≡ pos 0 → ⊥) (λ t k. k.not_zero) terms h.coefficients }
 
+-- z is 0
 unfoldable pub is_zero : ℤ → Bool
 is_zero (pos n) = eqb n 0
 is_zero (negsuc n) = false
 
-zero_if : (z : ℤ) → is_zero z ≡ true → z ≡ pos 0
+pub zero_if : (z : ℤ) → is_zero z ≡ true → z ≡ pos 0
 unfolding is_zero
 zero_if (pos n) e = ap pos (eqb-true n 0 e)
 zero_if (negsuc n) e = absurd (false≢true e)

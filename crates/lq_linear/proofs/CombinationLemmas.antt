@@ -4,12 +4,11 @@ use Rattle.std.proofs.lemmas.Int.{ints}
 use Rattle.std.proofs.lemmas.Bool.{cases_eq}
 use Rattle.std.specs.List.{AllByRecursion}
 use Rattle.lq_linear.specs.Terms.{Term, coefficient, AreAlike, times}
-use Rattle.lq_linear.specs.Row.{Inequality, loose_terms}
+use Rattle.lq_linear.specs.Row.{Inequality, loose_terms, signed}
 use Rattle.lq_linear.specs.Item.{row_numbered}
 use Rattle.lq_linear.specs.Derivation.{Part, combined, Agree}
 use Rattle.lq_linear.proofs.TermsLemmas.{coefficient-append, coefficient-times}
 use Rattle.lq_linear.proofs.Collecting.{coefficient_rest, all_map}
-use Rattle.lq_linear.proofs.LooseLemmas.{signed}
 use Rattle.std.specs.Prelude.{Option, Some, None, Bool, true, false, negsuc}
 
 pub combined_coefficient : (all : List Inequality) (part : Part) (parts : List Part) (s : ℕ) → coefficient (combined all (part ∷ parts)).terms s ≡ (pos part.0 *ℤ coefficient (row_numbered all part.1).terms s) +ℤ coefficient (combined all parts).terms s

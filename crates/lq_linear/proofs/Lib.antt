@@ -6,4 +6,4 @@ pub mod LooseLemmas
 pub mod ItemLemmas
 pub mod CombinationLemmas
 pub mod LawLemmas
-pub mod SearchLemmas
+pub mod WeightLemmas

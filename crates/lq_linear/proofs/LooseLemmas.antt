@@ -9,7 +9,7 @@ use Rattle.std.proofs.lemmas.Int.{to_z-of_z}
 use Rattle.std.proofs.Math.IntN.{+ℤ_idl}
 use Rattle.lq_linear.proofs.FormLemmas.{within_more, within_fits}
 use Rattle.lq_linear.specs.Terms.{Term, coefficient, times, Ascends, IsCoefficient, IsWithin, AreTerms, IsCollected}
-use Rattle.lq_linear.specs.Row.{Inequality, IsBounded, IsLoose, loose_terms}
+use Rattle.lq_linear.specs.Row.{Inequality, IsBounded, IsLoose, loose_terms, signed}
 use Rattle.lq_linear.proofs.Whole.{single_here, single_elsewhere}
 use Rattle.lq_linear.proofs.TermsLemmas.{coefficient-times}
 use Rattle.lq_linear.proofs.Collecting.{put, put_first, put_onto, put-alike, put_collected, kept, is_zero, zero_unless, later_from, coefficient_before, coefficient_first, coefficient_rest, one_collected, terms_collected, times_collected, form_within}
@@ -59,10 +59,6 @@ put_present s c (t ∷ terms) a h n w = elim (cases_order t.0 s) [
       (subst (λ l. length l ≤ suc (length terms)) (sym p) (omega (arith, r.0)), subst Coefficients (sym p) (h.0, r.1))
   | inr (inr l) ↦ absurd (n (coefficient_before s (t ∷ terms) (l, later_from t.0 s terms (omega arith) a.0)))
 ]
-
--- a sum, or what is opposite to it
-abbrev pub signed : Bool → List Term → List Term
-signed negated rest = cond negated (times (negsuc 0) rest) rest
 
 opposite_coefficients : (terms : List Term) → Coefficients terms → Coefficients (times (negsuc 0) terms)
 opposite_coefficients [] h = tt

@@ -1,6 +1,7 @@
 -- What items derive.
 use Rattle.std.specs.Prelude.{◌≡◌, ℕ, ◌+◌, ◌<◌, ◌≤◌, ◌/◌, ◌⊎◌, Bool, false, MatchBool, List, [], ◌∷◌, length, ℤ, pos, negsuc, ◌*ℤ◌, ◌≤ℤ◌, ◌<ℤ◌, Contains}
 use Rattle.std.specs.List.{AllByRecursion}
+use Rattle.lq_linear.specs.Ascend.{AscendBy}
 use Rattle.lq_linear.specs.Terms.{AreAlike, coefficient, times}
 use Rattle.lq_linear.specs.Row.{Inequality, IsBounded, nothing, added, multiplied}
 use Rattle.lq_linear.specs.Item.{rows_of, rows, row_numbered, dividend_row}
@@ -29,8 +30,7 @@ combined all (part ∷ parts) = added (multiplied part.0 (row_numbered all part.
 
 -- the numbers of the rows ascend, so no row is taken twice
 abbrev pub NumbersAscend : List Part → Type 0
-NumbersAscend [] = Unit {0}
-NumbersAscend (part ∷ parts) = AllByRecursion (λ later. part.1 < later.1) parts × NumbersAscend parts
+NumbersAscend parts = AscendBy (λ part. part.1) parts
 
 -- at most `width` rows that may be used, at different places, with multipliers and a divisor that are allowed
 pub record IsCombination (width : ℕ) (Allowed Usable : ℕ → Type 0) (combination : Combination) : Type 0 where
@@ -76,7 +76,7 @@ pub record IsRowFact (item : Item) (place : ℕ) (Exact : Type 0) : Type 0 where
   pub bounded : IsBounded (row_numbered (rows_of item) (place + 1))
   pub third : place ≡ 2 → Exact
 
--- the row with this number is a fact; the items stand newest first, and a third row needs that the dividend isn't negative, which the facts before the item must tell (docs/CHECKING.md, "Facts")
+-- the row with this number is a fact; the items stand newest first, and a third row needs that the dividend isn't negative, which the facts before the item must tell (docs/CHECKING.md, "Items as facts")
 abbrev pub IsFact : List ℕ → List Item → ℕ → Type 0
 IsFact multipliers [] number = ⊥
 IsFact multipliers (item ∷ before) number =

@@ -11,7 +11,7 @@ pub record Linear : Type 0 where
 abbrev pub value_of : (ℕ → ℤ) → Linear → ℤ
 value_of v sum = terms_value v sum.terms +ℤ sum.constant
 
--- the sum is a form, within all bounds (docs/CHECKING.md, "Values and states")
+-- the sum is a form, within all bounds (docs/CHECKING.md, "Forms and rows")
 pub record IsForm (sum : Linear) : Type 0 where
   pub are_terms : AreTerms sum.terms
   pub within : IsWithin (2 ^ 40) sum.constant

@@ -18,7 +18,7 @@ dividend_row (Holds row) = nothing
 dividend_row (Division quotient dividend divisor) = not_negative dividend
 dividend_row (Remainder remainder dividend divisor) = not_negative dividend
 
--- the rows of an item in their order, the third of which needs a dividend that isn't negative (docs/CHECKING.md, "Facts")
+-- the rows of an item in their order, the third of which needs a dividend that isn't negative (docs/CHECKING.md, "Items as facts")
 abbrev pub rows_of : Item → List Inequality
 rows_of (Holds row) = row ∷ []
 rows_of (Division q e d) =

@@ -13,7 +13,7 @@ pub record Inequality : Type 0 where
 abbrev pub Meets : (ℕ → ℤ) → Inequality → Type 0
 Meets v row = terms_value v row.terms ≤ℤ row.most
 
--- the bounds of a row, once like terms are collected (docs/CHECKING.md, "Values and states")
+-- the bounds of a row, once like terms are collected (docs/CHECKING.md, "Forms and rows")
 pub record IsBounded (row : Inequality) : Type 0 where
   pub collected : List Term
   pub are_terms : AreTerms collected
@@ -32,9 +32,13 @@ added a b = record { terms = a.terms ++ b.terms; most = a.most +ℤ b.most }
 abbrev pub multiplied : ℕ → Inequality → Inequality
 multiplied n row = record { terms = times (pos n) row.terms; most = pos n *ℤ row.most }
 
+-- a sum, or what is opposite to it
+abbrev pub signed : Bool → List Term → List Term
+signed negated rest = if negated then times (negsuc 0) rest else rest
+
 -- the terms of a row as an item gives it: a first term if there is one, and then a sum or what is opposite to it
 abbrev pub loose_terms : Option Term → Bool → List Term → List Term
-loose_terms lead negated rest = option_to_list lead ++ (if negated then times (negsuc 0) rest else rest)
+loose_terms lead negated rest = option_to_list lead ++ signed negated rest
 
 -- a row as an item gives it has small parts
 pub record IsLoose (lead : Option Term) (rest : List Term) (most : ℤ) : Type 0 where

@@ -1,6 +1,7 @@
 -- Sums of whole multiples of symbols.
 use Rattle.std.specs.Prelude.{◌≡◌, ℕ, ◌+◌, ◌^◌, ◌<◌, ◌≤◌, ◌==◌, if◌then◌else◌, List, [], ◌∷◌, map, length, slice_index_or, ℤ, pos, neg_ℤ, ◌+ℤ◌, ◌*ℤ◌, ◌≤ℤ◌}
 use Rattle.std.specs.List.{AllByRecursion}
+use Rattle.lq_linear.specs.Ascend.{AscendBy}
 
 -- z is at most n, its sign put aside
 pub record IsWithin (n : ℕ) (z : ℤ) : Type 0 where
@@ -31,8 +32,7 @@ terms_value v (term ∷ terms) = (term.1 *ℤ v term.0) +ℤ terms_value v terms
 
 -- the symbols ascend strictly
 abbrev pub Ascends : List Term → Type 0
-Ascends [] = Unit {0}
-Ascends (term ∷ terms) = AllByRecursion (λ later. term.0 < later.0) terms × Ascends terms
+Ascends terms = AscendBy (λ term. term.0) terms
 
 -- collected: the symbols ascend, and none is multiplied by 0
 pub record IsCollected (terms : List Term) : Type 0 where

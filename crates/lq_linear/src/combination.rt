@@ -10,17 +10,17 @@ use crate::item::{Item, row_at};
 use crate::loose::LooseRow;
 
 /// How many facts a derivation may combine.
-pub const WIDTH: usize = 3;
+pub const WIDTH: usize = 4;
 
 /// How many facts any combination may have.
-pub const MOST_PARTS: usize = 64;
+pub const MOST_PARTS: usize = 256;
 
 /// What the multiples of the rows multiply a symbol by, added up. A part is a multiplier and the
 /// number of a row.
-pub fn total_coefficient(items: &[Item], parts: &[(u32, u32)], symbol: u32) -> i64
+fn total_coefficient(items: &[Item], parts: &[(u32, u32)], symbol: u32) -> i64
     requires { length parts.now ≤ MOST_PARTS }
     ensures value { result ≡ coefficient (combined (rows (reverse items.now)) parts.now).terms symbol }
-    ensures within { IsWithin (2 ^ 56) result }
+    ensures within { IsWithin (2 ^ 57) result }
 {
     let mut total = 0;
     for (multiplier, number) in parts {
@@ -38,10 +38,10 @@ fn multiplied_coefficient(multiplier: u32, row: &LooseRow, symbol: u32) -> i64
 }
 
 /// What the multiples of the rows are at most, added up.
-pub fn total_most(items: &[Item], parts: &[(u32, u32)]) -> i128
+fn total_most(items: &[Item], parts: &[(u32, u32)]) -> i128
     requires { length parts.now ≤ MOST_PARTS }
     ensures value { result ≡ (combined (rows (reverse items.now)) parts.now).most }
-    ensures within { IsWithin (2 ^ 80) result }
+    ensures within { IsWithin (2 ^ 81) result }
 {
     let mut total = 0;
     for (multiplier, number) in parts {
@@ -91,7 +91,7 @@ fn agree_on(
 }
 
 /// Tells whether the multiples of the rows have the form of the divisor times the goal.
-pub fn is_multiple(items: &[Item], parts: &[(u32, u32)], divisor: u32, goal: &LooseRow) -> bool
+fn is_multiple(items: &[Item], parts: &[(u32, u32)], divisor: u32, goal: &LooseRow) -> bool
     requires { length parts.now ≤ MOST_PARTS }
     ensures { IsTrue result
         ↔ AreAlike (combined (rows (reverse items.now)) parts.now).terms (times (pos divisor) goal.now.terms) }
@@ -105,7 +105,7 @@ pub fn is_multiple(items: &[Item], parts: &[(u32, u32)], divisor: u32, goal: &Lo
 }
 
 /// The sum divided by the divisor and rounded down.
-pub fn floor(sum: i128, divisor: u32) -> i128
+fn floor(sum: i128, divisor: u32) -> i128
     requires { 0 < divisor }
     ensures { result ≡ floor_of sum divisor }
 {

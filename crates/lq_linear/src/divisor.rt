@@ -2,7 +2,7 @@
 
 ghost use Rattle.std.specs.Prelude.{◌≡◌, ◌↔◌, ◌≤ℤ◌, pos, IsSome, IfSome};
 
-/// What a form is divided by: from 1 to 65,536 (docs/CHECKING.md, "Values and states").
+/// What a form is divided by: from 1 to 65,536 (docs/CHECKING.md, "Forms and rows").
 #[derive(Clone, Copy, Debug)]
 pub struct Divisor {
     pub value: i64,

@@ -17,7 +17,7 @@ pub const MOST_COEFFICIENT: u64 = 65_536;
 /// How large the constant of a form may be, its sign put aside.
 pub const MOST_CONSTANT: u64 = 1_099_511_627_776;
 
-/// A sum of whole multiples of symbols and a constant (docs/CHECKING.md, "Values and states"): at most
+/// A sum of whole multiples of symbols and a constant (docs/CHECKING.md, "Forms and rows"): at most
 /// 16 symbols, which ascend, coefficients within 2^16 and none of them 0, a constant within 2^40.
 /// Contracts see its terms, pairs of a symbol and its coefficient, and its constant.
 #[derive(Debug, Drop)]

@@ -1,7 +1,7 @@
 //! Items.
 
-ghost use Rattle.std.specs.Prelude.{◌≡◌, length, reverse, slice_index_or};
-ghost use Rattle.lq_linear.specs.Row.{nothing};
+ghost use Rattle.std.specs.Prelude.{◌≡◌, ◌↔◌, IsTrue, true, length, reverse, slice_index_or};
+ghost use Rattle.lq_linear.specs.Row.{IsBounded, nothing};
 ghost use Rattle.lq_linear.specs.Item.{rows_of, rows, row_numbered, dividend_row};
 
 use crate::divisor::Divisor;
@@ -10,7 +10,7 @@ use crate::loose::LooseRow;
 use crate::row::Row;
 use sqlite_items::Items;
 
-/// What is known of symbols (docs/CHECKING.md, "Values and states").
+/// What is known of symbols (docs/CHECKING.md, "Items as facts").
 #[derive(Debug, Drop)]
 pub enum Item {
     /// The row holds.
@@ -123,9 +123,21 @@ fn remainder_row<'a>(
     }
 }
 
+/// Whether the row at this place of the item is a fact, where `exact` says whether a third row may be
+/// one (docs/CHECKING.md, "Items as facts").
+pub fn is_row_fact(item: &Item, place: usize, exact: bool) -> bool
+    ensures { IsTrue result ↔ (IsBounded (slice_index_or (rows_of item.now) place nothing)
+        × (place ≡ 2 → exact ≡ true)) }
+{
+    if place == 2 && !exact {
+        return false;
+    }
+    item.row(place).is_bounded()
+}
+
 /// The row with this number among those of all items, from 1, or the row `0 <= 0` where there are
 /// no more.
-pub fn row_at(items: &[Item], number: u32) -> LooseRow<'_>
+pub(crate) fn row_at(items: &[Item], number: u32) -> LooseRow<'_>
     ensures { result ≡ row_numbered (rows (reverse items.now)) number }
 {
     let mut place = number.saturating_sub(1) as usize;

@@ -9,20 +9,16 @@ mod form;
 mod item;
 mod laws;
 mod loose;
-mod plain;
 mod row;
 #[cfg(test)]
 mod tests;
+mod weight;
 
 pub use certificate::{Cert, Combo, Exact};
-pub use combination::{
-    MOST_PARTS, WIDTH, floor, is_consequence, is_contradiction, is_multiple, total_coefficient,
-    total_most,
-};
+pub use combination::{MOST_PARTS, WIDTH, is_consequence, is_contradiction};
 pub use divisor::Divisor;
 pub use form::{Form, MOST_COEFFICIENT, MOST_CONSTANT, MOST_SYMBOLS, add, scale};
-pub use item::{Facts, Item, row_at};
+pub use item::{Facts, Item, is_row_fact};
 pub use laws::derived_goals_hold;
 pub use loose::LooseRow;
-pub use plain::{is_derived, mark_item};
 pub use row::Row;

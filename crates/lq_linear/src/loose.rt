@@ -2,10 +2,12 @@
 
 ghost use Rattle.std.specs.Prelude.{◌≡◌, ℕ, ◌↔◌, ◌^◌, pos, negsuc, ◌*ℤ◌, IsTrue, if◌then◌else◌, [], ◌∷◌};
 ghost use Rattle.lq_linear.specs.Terms.{IsWithin, IsCoefficient, coefficient, AreTerms};
+ghost use Rattle.lq_linear.specs.Weight.{weight_of};
 ghost use Rattle.lq_linear.specs.Row.{IsBounded, nothing, not_negative, loose_terms};
 
 use crate::form::{Form, MOST_COEFFICIENT, MOST_CONSTANT, MOST_SYMBOLS, is_within};
 use crate::row::Row;
+use crate::weight::{weight_of_lead, weight_of_signed};
 use std::marker::Model;
 
 /// A row as an item gives it: at most one term, and the terms of a form or what is opposite to
@@ -132,6 +134,15 @@ impl<'a> LooseRow<'a> {
         ensures within { IsWithin (2 ^ 41) result }
     {
         self.most
+    }
+
+    /// What the form weighs: the same for equal forms, and as good as always another number for
+    /// others, so that a comparison of two numbers can stand before one of two forms.
+    pub fn weight(&self) -> i128
+        ensures value { result ≡ weight_of self.now }
+        ensures within { IsWithin (2 ^ 82) result }
+    {
+        weight_of_lead(self.lead) + weight_of_signed(self.negated, self.rest)
     }
 
     /// Tells whether this is within the bounds of a row.

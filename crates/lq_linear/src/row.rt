@@ -6,7 +6,7 @@ ghost use Rattle.lq_linear.specs.Terms.{IsWithin};
 use crate::form::{Form, MOST_CONSTANT, is_within};
 use std::marker::Model;
 
-/// Says that a form is at most a number (docs/CHECKING.md, "Values and states"). The form's own
+/// Says that a form is at most a number (docs/CHECKING.md, "Forms and rows"). The form's own
 /// constant is 0, and the number is within 2^40. Contracts see the terms and the number.
 #[derive(Debug, Drop)]
 pub struct Row {

@@ -4,7 +4,7 @@ use Rattle.std.proofs.lemmas.Bool.{true≢false, cases_Bool}
 use Rattle.std.specs.Prelude.{Some, None}
 use Rattle.lq_linear.specs.Row.{Inequality}
 use Rattle.lq_linear.specs.Derivation.{Part, Combination, Proves, IsConsequence, IsContradiction}
-use Rattle.lq_validity.specs.Mults.{Ascend}
+use Rattle.lq_linear.specs.Ascend.{Ascend}
 use Rattle.lq_validity.specs.Order.{Before}
 use Rattle.lq_validity.specs.Families.{Settles, SettledBy, WithParts}
 use Rattle.lq_validity.proofs.FirstLemmas.{divisor_decides, ascends_at, multiplier_at, place_of, first_here}
@@ -14,11 +14,11 @@ abbrev pub Dividing : List ℕ → List Inequality → Inequality → Bool → L
 Dividing multipliers all goal direct parts k c = WithParts multipliers all goal direct parts c × (k < length multipliers) × (c.divisor ≡ get_or multipliers k 0)
 
 -- what proves the goal is a consequence or a contradiction
-consequence_of : (all : List Inequality) (goal : Inequality) (void : Bool) (d : ℕ) (parts : List Part) → void ≡ false → Proves all goal (record { void = void; divisor = d; parts = parts }) → IsConsequence all parts d goal
+pub consequence_of : (all : List Inequality) (goal : Inequality) (void : Bool) (d : ℕ) (parts : List Part) → void ≡ false → Proves all goal (record { void = void; divisor = d; parts = parts }) → IsConsequence all parts d goal
 consequence_of all goal true d parts e p = absurd (true≢false e)
 consequence_of all goal false d parts e p = p
 
-contradiction_of : (all : List Inequality) (goal : Inequality) (void : Bool) (d : ℕ) (parts : List Part) → void ≡ true → Proves all goal (record { void = void; divisor = d; parts = parts }) → IsContradiction all parts × (d ≡ 1)
+pub contradiction_of : (all : List Inequality) (goal : Inequality) (void : Bool) (d : ℕ) (parts : List Part) → void ≡ true → Proves all goal (record { void = void; divisor = d; parts = parts }) → IsContradiction all parts × (d ≡ 1)
 contradiction_of all goal true d parts e p = p
 contradiction_of all goal false d parts e p = absurd (true≢false (sym e))
 

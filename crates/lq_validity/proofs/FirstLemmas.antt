@@ -5,8 +5,8 @@ use Rattle.std.proofs.lemmas.List.{get_or_read}
 use Rattle.std.specs.Prelude.{Contains}
 use Rattle.lq_linear.specs.Derivation.{Part, Combination, IsMultiplier}
 use Rattle.lq_linear.proofs.Collecting.{all_at}
-use Rattle.lq_linear.proofs.SearchLemmas.{contains_at}
-use Rattle.lq_validity.specs.Mults.{Ascend}
+use Rattle.lq_validity.proofs.MarkLemmas.{contains_at}
+use Rattle.lq_linear.specs.Ascend.{Ascend}
 use Rattle.lq_validity.specs.Order.{Before, DividesBefore, LexBefore, numbers_of, multipliers_of}
 
 pub lex_irrefl : (xs : List ℕ) → LexBefore xs xs → ⊥

@@ -7,13 +7,13 @@ use Rattle.lq_linear.specs.Row.{Inequality}
 use Rattle.lq_linear.specs.Item.{rows, dividend_row}
 use Rattle.lq_linear.specs.Derivation.{Part, Combination, NumbersAscend, IsFact, FollowsDirectly, Derives}
 use Rattle.lq_linear.specs.Certificate.{Exactness}
-use Rattle.lq_linear.specs.Search.{IsMarked, Marks, Completable}
+use Rattle.lq_validity.specs.Marks.{IsMarked, Marks}
 use Rattle.lq_linear.specs.declared.item.Item.{Item}
 use Rattle.lq_linear.specs.declared.item.Item.TheVariants.{Holds, Division, Remainder}
 use Rattle.lq_linear.specs.declared.combination.TheConstants.{WIDTH}
 use Rattle.lq_linear.proofs.Collecting.{all_map}
-use Rattle.lq_linear.proofs.SearchLemmas.{directly_if, completable_directly_if}
-use Rattle.lq_validity.specs.Mults.{Ascend, IsMultipliers}
+use Rattle.lq_linear.specs.Ascend.{Ascend}
+use Rattle.lq_validity.specs.Mults.{IsMultipliers}
 use Rattle.lq_validity.specs.Order.{Before, IsFirst, numbers_of}
 use Rattle.lq_validity.specs.Families.{WithFew, FindsFirst}
 use Rattle.lq_validity.specs.Derives.{Gives, GivesDirectly, AreExacts, divisions, division_count}
@@ -21,11 +21,11 @@ use Rattle.lq_validity.specs.Known.{noted}
 use Rattle.lq_validity.proofs.FirstLemmas.{numbers_length}
 
 -- what holds of the numbers holds of the parts
-all_numbers : (P : ℕ → Type 0) (parts : List Part) → AllByRecursion (λ part. P part.1) parts → AllByRecursion P (numbers_of parts)
+pub all_numbers : (P : ℕ → Type 0) (parts : List Part) → AllByRecursion (λ part. P part.1) parts → AllByRecursion P (numbers_of parts)
 all_numbers P [] h = tt
 all_numbers P (part ∷ parts) h = (h.0, all_numbers P parts h.1)
 
-all_parts : (P : ℕ → Type 0) (parts : List Part) → AllByRecursion P (numbers_of parts) → AllByRecursion (λ part. P part.1) parts
+pub all_parts : (P : ℕ → Type 0) (parts : List Part) → AllByRecursion P (numbers_of parts) → AllByRecursion (λ part. P part.1) parts
 all_parts P [] h = tt
 all_parts P (part ∷ parts) h = (h.0, all_parts P parts h.1)
 
@@ -98,9 +98,9 @@ module _ (multipliers : List ℕ) (items : List Item) (item : Item) (marks : Lis
   missing_follows none h = none h.0 (gives_few multipliers items (dividend_row item) true marks m.right h.0 (λ e. h.2) (h.1, h.3))
 
   pub exact_tells : (found : Option Combination) → FindsFirst (WithFew multipliers (IsMarked marks) (rows items) (dividend_row item) true (WIDTH + 1)) found
-      → (is_some found ≡ true) ↔ Completable multipliers (IsMarked marks) (rows items) (dividend_row item) true [] 1
-  exact_tells None h = (λ e. absurd (false≢true e), λ k. absurd (missing_follows h (directly_if multipliers (IsMarked marks) (IsFact multipliers items) (rows items) (dividend_row item) 1 (λ n q. (m.right n).0 q) k)))
-  exact_tells (Some c) h = (λ e. completable_directly_if multipliers (IsFact multipliers items) (IsMarked marks) (rows items) (dividend_row item) (λ n q. (m.right n).1 q) (λ n q. q.0) (found_follows c h.0), λ k. refl)
+      → (is_some found ≡ true) ↔ FollowsDirectly multipliers (IsFact multipliers items) (rows items) (dividend_row item)
+  exact_tells None h = (λ e. absurd (false≢true e), λ k. absurd (missing_follows h k))
+  exact_tells (Some c) h = (λ e. found_follows c h.0, λ k. refl)
 
 -- one item more
 pub entered_more : (multipliers : List ℕ) (items : List Item) (item : Item) (marks : List Bool) → Marks multipliers items marks → (found : Option Combination) → FindsFirst (WithFew multipliers (IsMarked marks) (rows items) (dividend_row item) true (WIDTH + 1)) found

@@ -1,5 +1,14 @@
+pub mod MarkLemmas
 pub mod FirstLemmas
 pub mod DividedLemmas
 pub mod MultipliedLemmas
 pub mod PositionLemmas
 pub mod KnownLemmas
+pub mod SumLemmas
+pub mod TableLemmas
+pub mod PoolLemmas
+pub mod UsefulLemmas
+pub mod RowLemmas
+pub mod NarrowLemmas
+pub mod FrontLemmas
+pub mod NarrowedLemmas

@@ -5,7 +5,7 @@ use Rattle.std.specs.Prelude.{Option, Some, None}
 use Rattle.std.specs.List.{AllByRecursion}
 use Rattle.lq_linear.specs.Row.{Inequality}
 use Rattle.lq_linear.specs.Derivation.{Part, Combination, IsMultiplier}
-use Rattle.lq_validity.specs.Mults.{Ascend}
+use Rattle.lq_linear.specs.Ascend.{Ascend}
 use Rattle.lq_validity.specs.Order.{Before, numbers_of, multipliers_of}
 use Rattle.lq_validity.specs.Families.{WithParts, WithNumbers, WithNumbersBy, FindsFirst}
 use Rattle.lq_validity.proofs.FirstLemmas.{not_by_multiplier, ascends_at, multiplier_at, place_of, first_here}

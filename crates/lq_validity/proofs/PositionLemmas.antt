@@ -5,7 +5,7 @@ use Rattle.std.specs.List.{AllByRecursion}
 use Rattle.lq_linear.specs.Row.{Inequality}
 use Rattle.lq_linear.specs.Derivation.{Combination, IsMultiplier}
 use Rattle.lq_linear.proofs.Collecting.{all_map}
-use Rattle.lq_validity.specs.Mults.{Ascend}
+use Rattle.lq_linear.specs.Ascend.{Ascend}
 use Rattle.lq_validity.specs.Order.{Before, numbers_of}
 use Rattle.lq_validity.specs.Families.{WithNumbers, WithMore, WithMoreAt, WithFew, FindsFirst}
 use Rattle.lq_validity.proofs.FirstLemmas.{not_by_number, numbers_length, first_here}

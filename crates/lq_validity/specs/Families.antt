@@ -3,7 +3,7 @@ use Rattle.std.specs.Prelude.{◌≡◌, ℕ, ◌+◌, ◌-◌, ◌<◌, ◌≤�
 use Rattle.std.specs.List.{AllByRecursion}
 use Rattle.lq_linear.specs.Row.{Inequality}
 use Rattle.lq_linear.specs.Derivation.{Part, Combination, IsMultiplier, Proves, IsConsequence, IsContradiction}
-use Rattle.lq_validity.specs.Mults.{Ascend}
+use Rattle.lq_linear.specs.Ascend.{Ascend}
 use Rattle.lq_validity.specs.Order.{Before, numbers_of}
 
 -- the combination, whatever its parts, gives the goal

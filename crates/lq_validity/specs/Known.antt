@@ -2,7 +2,7 @@
 use Rattle.std.specs.Prelude.{◌≡◌, ℕ, ◌+◌, Bool, Option, Some, None, List, [], ◌∷◌, ◌++◌}
 use Rattle.lq_linear.specs.Derivation.{Combination}
 use Rattle.lq_linear.specs.Certificate.{Exactness}
-use Rattle.lq_linear.specs.Search.{Marks}
+use Rattle.lq_validity.specs.Marks.{Marks}
 use Rattle.lq_linear.specs.declared.item.Item.{Item}
 use Rattle.lq_linear.specs.declared.item.Item.TheVariants.{Holds, Division, Remainder}
 use Rattle.lq_validity.specs.Derives.{AreExacts, division_count}

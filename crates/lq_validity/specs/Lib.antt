@@ -2,4 +2,10 @@ pub mod Mults
 pub mod Order
 pub mod Derives
 pub mod Families
+pub mod Marks
+pub mod Sum
+pub mod Table
+pub mod Pool
+pub mod Narrow
 pub mod Known
+pub mod Index

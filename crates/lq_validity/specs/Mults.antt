@@ -1,11 +1,7 @@
 -- Lists of multipliers.
-use Rattle.std.specs.Prelude.{◌≡◌, ℕ, ◌<◌, ◌≤◌, List, [], ◌∷◌, length}
+use Rattle.std.specs.Prelude.{◌≡◌, ℕ, ◌≤◌, List, ◌∷◌, length}
 use Rattle.std.specs.List.{AllByRecursion}
-
--- the numbers ascend strictly
-abbrev pub Ascend : List ℕ → Type 0
-Ascend [] = Unit {0}
-Ascend (n ∷ numbers) = AllByRecursion (λ later. n < later) numbers × Ascend numbers
+use Rattle.lq_linear.specs.Ascend.{Ascend}
 
 -- what may stand behind the 1: at most two numbers, from 2 to 64, ascending
 pub record IsRest (numbers : List ℕ) : Type 0 where

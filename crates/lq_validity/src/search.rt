@@ -1,16 +1,21 @@
 //! The search in its order.
 
-ghost use Rattle.std.specs.Prelude.{◌≡◌, ◌*◌, ◌^◌, ◌+◌, ◌<◌, ◌≤◌, ◌∷◌, IfOk, IsTrue, ◌↔◌, length, reverse};
+ghost use Rattle.std.specs.Prelude.{◌≡◌, ◌*◌, ◌^◌, ◌+◌, ◌<◌, ◌≤◌, [], ◌∷◌, ◌↔◌, IsTrue, IfOk, length, reverse};
 ghost use Rattle.lq_linear.specs.Item.{rows};
-ghost use Rattle.lq_linear.specs.Search.{IsMarked};
-ghost use Rattle.lq_validity.specs.Mults.{Ascend};
+ghost use Rattle.lq_validity.specs.Marks.{IsMarked};
+ghost use Rattle.lq_linear.specs.Ascend.{Ascend};
+ghost use Rattle.lq_linear.specs.Derivation.{IsConsequence, IsContradiction};
+ghost use Rattle.lq_validity.specs.Narrow.{KnowsWeights};
 ghost use Rattle.lq_validity.specs.Families.{SettledBy, WithParts, WithNumbers, WithNumbersBy, WithMore, WithMoreAt, WithFew, FindsFirst};
 
+use crate::marks::is_marked;
+use crate::sum::Sum;
 use lq_linear::{Combo, Item, LooseRow, WIDTH, is_consequence, is_contradiction};
 use sqlite_items::Items;
 use std::alloc::{AllocError, Global};
 
-/// What is searched. The marks tell which rows are facts; `direct` leaves contradictions out.
+/// What is searched. The marks tell which rows are facts; `direct` leaves contradictions out. The
+/// sums are those of all rows, and the weight is that of the goal.
 #[derive(Clone, Copy)]
 pub(crate) struct Search<'a> {
     pub(crate) alloc: Global,
@@ -18,6 +23,8 @@ pub(crate) struct Search<'a> {
     pub(crate) marks: &'a [bool],
     pub(crate) multipliers: &'a [u32],
     pub(crate) direct: bool,
+    pub(crate) sums: &'a [Sum],
+    pub(crate) weight: i128,
 }
 
 impl<'a> Search<'a> {
@@ -25,6 +32,7 @@ impl<'a> Search<'a> {
     pub(crate) fn first(&self, goal: &LooseRow) -> Result<Option<Combo>, AllocError>
         requires marks { length self.now.marks.now < 3 * 2 ^ 30 }
         requires ascending { Ascend (0 ∷ self.now.multipliers.now) }
+        requires weighed { KnowsWeights self.now.sums.now self.now.weight (rows (reverse self.now.items.now)) goal.now }
         ensures { IfOk result (FindsFirst (WithFew self.now.multipliers.now (IsMarked self.now.marks.now)
             (rows (reverse self.now.items.now)) goal.now self.now.direct (WIDTH + 1))) }
     {
@@ -35,6 +43,18 @@ impl<'a> Search<'a> {
             }
         }
         Ok(None)
+    }
+
+    /// The first without a row.
+    pub(crate) fn first_alone(&self, goal: &LooseRow) -> Result<Option<Combo>, AllocError>
+        requires marks { length self.now.marks.now < 3 * 2 ^ 30 }
+        requires ascending { Ascend (0 ∷ self.now.multipliers.now) }
+        requires weighed { KnowsWeights self.now.sums.now self.now.weight (rows (reverse self.now.items.now)) goal.now }
+        ensures { IfOk result (FindsFirst (WithMore self.now.multipliers.now (IsMarked self.now.marks.now)
+            (rows (reverse self.now.items.now)) goal.now self.now.direct [] 0 1)) }
+    {
+        let mut numbers = Vec::new(self.alloc);
+        self.first_of(goal, 0, &mut numbers, 1)
     }
 
     /// The first with the rows of these numbers and `left` more, from the number `from` on.
@@ -49,6 +69,7 @@ impl<'a> Search<'a> {
         requires room { length numbers.old.items + left ≤ WIDTH }
         requires marks { length self.now.marks.now < 3 * 2 ^ 30 }
         requires ascending { Ascend (0 ∷ self.now.multipliers.now) }
+        requires weighed { KnowsWeights self.now.sums.now self.now.weight (rows (reverse self.now.items.now)) goal.now }
         ensures first { IfOk result (FindsFirst (WithMore self.now.multipliers.now (IsMarked self.now.marks.now)
             (rows (reverse self.now.items.now)) goal.now self.now.direct numbers.old.items left from)) }
         ensures same { IfOk result (λ _. numbers.new.items ≡ numbers.old.items) }
@@ -80,11 +101,12 @@ impl<'a> Search<'a> {
         requires number { number ≤ 3 * 2 ^ 30 }
         requires marks { length self.now.marks.now < 3 * 2 ^ 30 }
         requires ascending { Ascend (0 ∷ self.now.multipliers.now) }
+        requires weighed { KnowsWeights self.now.sums.now self.now.weight (rows (reverse self.now.items.now)) goal.now }
         ensures first { IfOk result (FindsFirst (WithMoreAt self.now.multipliers.now (IsMarked self.now.marks.now)
             (rows (reverse self.now.items.now)) goal.now self.now.direct numbers.old.items left number)) }
         ensures same { IfOk result (λ _. numbers.new.items ≡ numbers.old.items) }
     {
-        if !self.is_marked(number) {
+        if !is_marked(self.marks, number) {
             return Ok(None);
         }
         numbers.push(number)?;
@@ -103,6 +125,7 @@ impl<'a> Search<'a> {
     ) -> Result<Option<Combo>, AllocError>
         requires room { length parts.old.items + length numbers.now ≤ WIDTH }
         requires ascending { Ascend (0 ∷ self.now.multipliers.now) }
+        requires weighed { KnowsWeights self.now.sums.now self.now.weight (rows (reverse self.now.items.now)) goal.now }
         ensures first { IfOk result (FindsFirst (WithNumbers self.now.multipliers.now
             (rows (reverse self.now.items.now)) goal.now self.now.direct parts.old.items numbers.now)) }
         ensures same { IfOk result (λ _. parts.new.items ≡ parts.old.items) }
@@ -136,6 +159,7 @@ impl<'a> Search<'a> {
     ) -> Result<Option<Combo>, AllocError>
         requires room { length parts.old.items + length rest.now < WIDTH }
         requires ascending { Ascend (0 ∷ self.now.multipliers.now) }
+        requires weighed { KnowsWeights self.now.sums.now self.now.weight (rows (reverse self.now.items.now)) goal.now }
         ensures first { IfOk result (FindsFirst (WithNumbersBy self.now.multipliers.now
             (rows (reverse self.now.items.now)) goal.now self.now.direct parts.old.items number rest.now multiplier)) }
         ensures same { IfOk result (λ _. parts.new.items ≡ parts.old.items) }
@@ -154,6 +178,7 @@ impl<'a> Search<'a> {
     ) -> Result<Option<Combo>, AllocError>
         requires room { length parts.now ≤ WIDTH }
         requires ascending { Ascend (0 ∷ self.now.multipliers.now) }
+        requires weighed { KnowsWeights self.now.sums.now self.now.weight (rows (reverse self.now.items.now)) goal.now }
         ensures { IfOk result (FindsFirst (WithParts self.now.multipliers.now
             (rows (reverse self.now.items.now)) goal.now self.now.direct parts.now)) }
     {
@@ -173,26 +198,37 @@ impl<'a> Search<'a> {
     fn settled_by(&self, goal: &LooseRow, parts: &[(u32, u32)], divisor: u32) -> Option<bool>
         requires room { length parts.now ≤ WIDTH }
         requires positive { 0 < divisor }
+        requires weighed { KnowsWeights self.now.sums.now self.now.weight (rows (reverse self.now.items.now)) goal.now }
         ensures { SettledBy self.now.direct (rows (reverse self.now.items.now)) goal.now parts.now divisor result }
     {
-        if is_consequence(self.items, parts, divisor, goal) {
+        if self.follows(goal, parts, divisor) {
             return Some(false);
         }
-        if !self.direct && divisor == 1 && is_contradiction(self.items, parts) {
+        if !self.direct && divisor == 1 && self.contradicts(goal, parts) {
             return Some(true);
         }
         None
     }
 
-    /// Tells whether the row with this number is a fact.
-    fn is_marked(&self, number: u32) -> bool
-        ensures { IsTrue result ↔ IsMarked self.now.marks.now number }
+    /// Whether the multiples of the rows give the goal as a consequence; their weights are compared
+    /// first.
+    fn follows(&self, goal: &LooseRow, parts: &[(u32, u32)], divisor: u32) -> bool
+        requires room { length parts.now ≤ WIDTH }
+        requires positive { 0 < divisor }
+        requires weighed { KnowsWeights self.now.sums.now self.now.weight (rows (reverse self.now.items.now)) goal.now }
+        ensures { IsTrue result ↔ IsConsequence (rows (reverse self.now.items.now)) parts.now divisor goal.now }
     {
-        number != 0
-            && self
-                .marks
-                .get(number as usize - 1)
-                .copied()
-                .unwrap_or(false)
+        Sum::weight_of(self.sums, parts) == i128::from(divisor) * self.weight
+            && is_consequence(self.items, parts, divisor, goal)
+    }
+
+    /// Whether the multiples of the rows contradict each other; their weight is looked at first.
+    fn contradicts(&self, goal: &LooseRow, parts: &[(u32, u32)]) -> bool
+        requires room { length parts.now ≤ WIDTH }
+        requires weighed { KnowsWeights self.now.sums.now self.now.weight (rows (reverse self.now.items.now)) goal.now }
+        ensures { IsTrue result ↔ IsContradiction (rows (reverse self.now.items.now)) parts.now }
+    {
+        let _ = goal;
+        Sum::weight_of(self.sums, parts) == 0 && is_contradiction(self.items, parts)
     }
 }

@@ -1,4 +1,4 @@
-use crate::{Mults, derives};
+use crate::{Index, Mults, derives};
 use lq_linear::{Cert, Combo, Divisor, Exact, Facts, Form, Item, Row};
 use sqlite_items::Items;
 use std::alloc::Global;
@@ -67,9 +67,43 @@ struct Case {
 
 const CHAIN: &[(Terms, i64)] = &[(&[(0, 1), (1, -1)], -1), (&[(1, 1), (2, -1)], -1)];
 
-/// x, y, z and w are the symbols 0, 1, 2 and 3. In the last two cases more than one combination
-/// gives the goal, and the first in order is found.
-const CASES: [Case; 8] = [
+/// Each of six symbols is below the next.
+const RISING: &[(Terms, i64)] = &[
+    (&[(0, 1), (1, -1)], -1),
+    (&[(1, 1), (2, -1)], -1),
+    (&[(2, 1), (3, -1)], -1),
+    (&[(3, 1), (4, -1)], -1),
+    (&[(4, 1), (5, -1)], -1),
+];
+
+/// x, y, z and w are the symbols 0, 1, 2 and 3. The goal that needs four facts is derived, the one
+/// that needs five is not. In the last two cases more than one combination gives the goal, and the
+/// first in order is found.
+const CASES: [Case; 12] = [
+    Case {
+        rows: RISING,
+        rest: &[2, 3],
+        goal: (&[(0, 1), (3, -1)], -3),
+        found: Some((false, 1, &[(1, 1), (1, 2), (1, 3)])),
+    },
+    Case {
+        rows: RISING,
+        rest: &[2, 3],
+        goal: (&[(0, 1), (4, -1)], -4),
+        found: Some((false, 1, &[(1, 1), (1, 2), (1, 3), (1, 4)])),
+    },
+    Case {
+        rows: RISING,
+        rest: &[2, 3],
+        goal: (&[(0, 1), (5, -1)], -5),
+        found: None,
+    },
+    Case {
+        rows: &[(&[(0, 2)], -5)],
+        rest: &[2],
+        goal: (&[(0, 1)], -4),
+        found: None,
+    },
     Case {
         rows: CHAIN,
         rest: &[],
@@ -124,7 +158,7 @@ const CASES: [Case; 8] = [
 fn finds_the_first_combination(rt: HostRuntime) -> Result<(), Fail> {
     for case in CASES {
         let known = facts(rt.alloc(), case.rows)?;
-        assert!(rt; known.items.len() <= 2);
+        assert!(rt; known.items.len() <= 5);
         let goal = row(rt.alloc(), case.goal.0, case.goal.1)?;
         let mults = Mults::list(case.rest).ok_or("no multipliers")?;
         let cert = derives(rt.alloc(), &known, &goal, &mults)?;
@@ -164,18 +198,88 @@ fn finds_what_shows_that_a_dividend_is_not_negative(rt: HostRuntime) -> Result<(
     Ok(())
 }
 
-#[test]
-fn searches_sixty_facts(rt: HostRuntime) -> Result<(), Fail> {
-    let mut items = Vec::new(rt.alloc());
-    for symbol in 0..60u32 {
-        items.push(Item::Holds(row(rt.alloc(), &[(symbol, 1), (symbol + 1, -1)], -1)?))?;
+/// Facts that say that each of so many symbols is below the next.
+fn rising(alloc: Global, count: u32) -> Result<Facts, Fail> {
+    let mut items = Vec::new(alloc);
+    for symbol in 0..count {
+        items.push(Item::Holds(row(alloc, &[(symbol, 1), (symbol.saturating_add(1), -1)], -1)?))?;
     }
-    assert_eq!(rt; items.len(), 60);
-    let known = Facts {
+    Ok(Facts {
         items: Items::from_vec(items),
-    };
+    })
+}
+
+#[test]
+fn searches_an_index_of_511_facts(rt: HostRuntime) -> Result<(), Fail> {
+    let known = rising(rt.alloc(), 511)?;
+    assert_eq!(rt; known.items.len(), 511);
     let mults = Mults::list(&[2, 3]).ok_or("no multipliers")?;
-    let near = row(rt.alloc(), &[(58, 1), (60, -1)], -2)?;
-    assert!(rt; derives(rt.alloc(), &known, &near, &mults)?.is_some());
+    let index = Index::of(rt.alloc(), &known, &mults)?;
+    let cases: [(u32, i64, Option<Found>); 3] = [
+        (3, -3, Some((false, 1, &[(1, 1), (1, 2), (1, 3)]))),
+        (4, -4, Some((false, 1, &[(1, 1), (1, 2), (1, 3), (1, 4)]))),
+        (5, -5, None),
+    ];
+    for (last, most, want) in cases {
+        let goal = row(rt.alloc(), &[(0, 1), (last, -1)], most)?;
+        let cert = index.find(&goal)?;
+        let found = cert.as_ref().map(|c| found_in(&c.goal));
+        assert_eq!(rt; found, want, "at {goal:?}");
+    }
+    Ok(())
+}
+
+/// Items that say that the symbol 0 is `x` and that the symbol 1 is its quotient by 3, or what is left over.
+fn divided(alloc: Global, x: i64, is_quotient: bool) -> Result<Facts, Fail> {
+    let mut items = Vec::new(alloc);
+    items.push(Item::Holds(row(alloc, &[(0, 1)], x)?))?;
+    items.push(Item::Holds(row(alloc, &[(0, -1)], x.wrapping_neg())?))?;
+    let dividend = form(alloc, &[(0, 1)])?;
+    let divisor = Divisor::of(3).ok_or("no divisor")?;
+    items.push(if is_quotient {
+        Item::Division {
+            quotient: 1,
+            dividend,
+            divisor,
+        }
+    } else {
+        Item::Remainder {
+            remainder: 1,
+            dividend,
+            divisor,
+        }
+    })?;
+    Ok(Facts {
+        items: Items::from_vec(items),
+    })
+}
+
+#[test]
+fn divisions_derive(rt: HostRuntime) -> Result<(), Fail> {
+    // -7 / 3 is -2 and leaves -1, and 7 / 3 is 2 and leaves 1. The third row holds for 7 alone.
+    let cases: [(i64, bool, i64, i64, bool); 14] = [
+        (-7, true, 1, -2, true),
+        (-7, true, 1, -3, false),
+        (-7, true, -1, 3, true),
+        (-7, true, -1, 2, false),
+        (7, true, 1, 2, true),
+        (7, true, 1, 1, false),
+        (7, true, -1, -2, true),
+        (7, true, -1, -3, false),
+        (-7, false, 1, 2, true),
+        (-7, false, -1, 2, true),
+        (-7, false, -1, 1, false),
+        (7, false, -1, 0, true),
+        (7, false, -1, -1, false),
+        (7, false, 1, 1, false),
+    ];
+    for (x, is_quotient, sign, most, derived) in cases {
+        let facts = divided(rt.alloc(), x, is_quotient)?;
+        let goal = row(rt.alloc(), &[(1, sign)], most)?;
+        assert_eq!(rt; facts.items.len(), 3);
+        let mults = Mults::list(&[3]).ok_or("no multipliers")?;
+        let found = derives(rt.alloc(), &facts, &goal, &mults)?.is_some();
+        assert_eq!(rt; found, derived, "at {x}, {sign} and {most}");
+    }
     Ok(())
 }

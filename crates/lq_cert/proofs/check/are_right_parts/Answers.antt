@@ -5,7 +5,7 @@ use Rattle.lq_linear.specs.Derivation.{Part}
 use Rattle.lq_linear.proofs.Collecting.{all_map}
 use Rattle.lq_linear.proofs.CombinationLemmas.{drop_part}
 use Rattle.lq_cert.specs.Right.{IsAllowed, MayUse}
-use Rattle.lq_cert.proofs.RisingLemmas.{RisesFrom, rises, rises_all, rises_ascend, parts_by, by_parts, all_both}
+use Rattle.lq_cert.proofs.RisingLemmas.{RisesFrom, rises, rises_all, rises_ascend, all_both}
 use Rattle.lq_cert.proofs.check.are_right_parts.Goals as goal
 use Rattle.lq_cert.proofs.check.are_right_parts.Goals.{then-from-least-via-then-from-least, then-from-least-via-else-from-least+then-not-is_allowed, then-from-least-via-else-from-least+else-not-is_allowed+then-not-may_use}
 
@@ -18,7 +18,7 @@ returns-then-from-least c =
       λ h.
           let rising : RisesFrom (λ (p : Part). p.1) Q c.loop-multiplier.least (get_or parts i (0, 0) ∷ drop (i + 1) parts)
           = subst (RisesFrom (λ (p : Part). p.1) Q c.loop-multiplier.least) (drop_part parts i c.loop-multiplier-test.true)
-          (c.loop-multiplier.invariant.part (rises (λ (p : Part). p.1) Q parts (by_parts parts h.ascending) (all_both (λ p. IsAllowed p.0) (λ p. MayUse c.args.exacts.now c.args.items.now p.1) parts h.multipliers h.usable))) in
+          (c.loop-multiplier.invariant.part (rises (λ (p : Part). p.1) Q parts h.ascending (all_both (λ p. IsAllowed p.0) (λ p. MayUse c.args.exacts.now c.args.items.now p.1) parts h.multipliers h.usable))) in
           elim c.then-from-least.branch [
             | then-from-least-via-then-from-least w ↦ absurd (omega (arith, rising.0, w.if-from-least.true, c.from.ensures))
             | then-from-least-via-else-from-least+then-not-is_allowed w ↦ absurd (both_ways _ w.if-not-is_allowed.true (w.is_allowed.ensures.1 rising.1.0))
@@ -48,7 +48,7 @@ returns c =
     = c.loop-multiplier.invariant.whole (subst (RisesFrom (λ (p : Part). p.1) Q c.loop-multiplier.least) (sym (drop_all c.loop-multiplier.multiplier-index parts c.loop-multiplier-test.false)) tt) in
     let each = rises_all (λ (p : Part). p.1) Q 0 parts rising in (
       λ _. record {
-        ascending = parts_by parts (rises_ascend (λ (p : Part). p.1) Q 0 parts rising);
+        ascending = rises_ascend (λ (p : Part). p.1) Q 0 parts rising;
         multipliers = all_map Q (λ p. IsAllowed p.0) (λ p q. q.0) parts each;
         usable = all_map Q (λ p. MayUse c.args.exacts.now c.args.items.now p.1) (λ p q. q.1) parts each;
       },

@@ -3,7 +3,8 @@ use Rattle.std.proofs.lemmas.Int.{ints}
 use Rattle.std.specs.Prelude.{IfSome}
 use Rattle.lq_linear.specs.Terms.{IsCoefficient, IsWithin, coefficient}
 use Rattle.lq_linear.proofs.FormLemmas.{within_more}
-use Rattle.lq_linear.proofs.LooseLemmas.{signed, signed_coefficient, lead_here, lead_elsewhere, lead_none, within_held, sum_within}
+use Rattle.lq_linear.specs.Row.{signed}
+use Rattle.lq_linear.proofs.LooseLemmas.{signed_coefficient, lead_here, lead_elsewhere, lead_none, within_held, sum_within}
 use Rattle.lq_linear.proofs.loose.LooseRow.coefficient.Goals as goal
 use Rattle.lq_linear.proofs.loose.LooseRow.coefficient.Goals.{After-opposite_if-signed}
 

@@ -3,7 +3,7 @@ use Rattle.std.proofs.lemmas.Bool.{cases_lt}
 use Rattle.std.specs.Prelude.{IfOk}
 use Rattle.lq_linear.specs.Item.{rows}
 use Rattle.lq_linear.specs.Derivation.{Part, Combination}
-use Rattle.lq_linear.proofs.SearchLemmas.{if_ok}
+use Rattle.lq_validity.proofs.MarkLemmas.{if_ok}
 use Rattle.lq_validity.specs.Order.{Before}
 use Rattle.lq_validity.specs.Families.{WithParts, WithNumbers, WithNumbersBy, FindsFirst}
 use Rattle.lq_validity.proofs.MultipliedLemmas.{finds_alone, multiplied_first, multiplied_none, finds_at}

@@ -2,9 +2,9 @@ use Rattle.std.proofs.Common.{◌≡◌, ℕ, ◌+◌, ◌-◌, ◌<◌, ◌≤�
 use Rattle.std.proofs.lemmas.Bool.{cases_lt}
 use Rattle.std.specs.Prelude.{IfOk}
 use Rattle.lq_linear.specs.Item.{rows}
-use Rattle.lq_linear.specs.Search.{IsMarked}
+use Rattle.lq_validity.specs.Marks.{IsMarked}
 use Rattle.lq_linear.specs.Derivation.{Part, Combination}
-use Rattle.lq_linear.proofs.SearchLemmas.{if_ok, marked_inside}
+use Rattle.lq_validity.proofs.MarkLemmas.{if_ok, marked_inside}
 use Rattle.lq_validity.specs.Order.{Before}
 use Rattle.lq_validity.specs.Families.{WithNumbers, WithMore, WithMoreAt, FindsFirst}
 use Rattle.lq_validity.proofs.MultipliedLemmas.{finds_at, finds_map}

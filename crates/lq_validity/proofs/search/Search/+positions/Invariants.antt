@@ -1,6 +1,6 @@
 use Rattle.std.proofs.Common.{◌≡◌, ℕ, ◌+◌, ◌*◌, ◌<◌, ◌≤◌, reverse}
 use Rattle.lq_linear.specs.Item.{rows}
-use Rattle.lq_linear.specs.Search.{IsMarked}
+use Rattle.lq_validity.specs.Marks.{IsMarked}
 use Rattle.lq_linear.specs.Derivation.{Combination}
 use Rattle.lq_validity.specs.Families.{WithMoreAt}
 use Rattle.lq_validity.proofs.search.Search.+positions.Given as goal

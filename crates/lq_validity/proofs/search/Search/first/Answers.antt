@@ -1,7 +1,7 @@
 use Rattle.std.proofs.Common.{◌≡◌, ℕ, ◌+◌, inl, inr, List, reverse, sym, ◌∙◌, subst, arith}
 use Rattle.std.proofs.lemmas.Bool.{cases_lt}
 use Rattle.lq_linear.specs.Item.{rows}
-use Rattle.lq_linear.specs.Search.{IsMarked}
+use Rattle.lq_validity.specs.Marks.{IsMarked}
 use Rattle.lq_linear.specs.Derivation.{Combination}
 use Rattle.lq_linear.specs.declared.combination.TheConstants.{WIDTH}
 use Rattle.lq_validity.specs.Order.{Before}

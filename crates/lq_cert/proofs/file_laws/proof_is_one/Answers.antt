@@ -1,5 +1,0 @@
-use Rattle.lq_cert.proofs.FileLemmas.{one_proof}
-use Rattle.lq_cert.proofs.file_laws.proof_is_one.Goals as goal
-
-pub returns : goal.returns
-returns c = one_proof

@@ -1,0 +1,15 @@
+use Rattle.std.proofs.Common.{◌≡◌, reverse, take}
+use Rattle.lq_validity.specs.Marks.{IsMarked}
+use Rattle.lq_validity.specs.Pool.{AreNear, HasSums, HasMultiples}
+use Rattle.lq_validity.specs.Known.{IsKnown}
+use Rattle.lq_validity.specs.Derives.{divisions}
+use Rattle.lq_validity.proofs.known.known_of.Given as goal
+
+abbrev pub invariant-loop-place : goal.invariant-loop-place
+invariant-loop-place l = record {
+  known : IsKnown l.multipliers (reverse (take l.place l.items)) l.marks.items l.exacts;
+  count : l.divisions ≡ divisions (reverse (take l.place l.items));
+  near : AreNear l.pool.multiples.items;
+  has : HasSums l.pool.multiples.items l.pool.table;
+  there : HasMultiples l.multipliers (IsMarked l.marks.items) l.sums l.pool.multiples.items;
+}

@@ -1,0 +1,8 @@
+use Rattle.std.proofs.Common.{◌≡◌, ◌^◌, map, take}
+use Rattle.std.specs.List.{AllByRecursion}
+use Rattle.lq_validity.specs.Sum.{sum_of, IsNear}
+use Rattle.lq_validity.specs.Narrow.{AreWeighed}
+use Rattle.lq_validity.proofs.rows.sums_of.Given as goal
+
+abbrev pub invariant-loop-row : goal.invariant-loop-row
+invariant-loop-row l = AreWeighed l.sums.items (take l.row-index l.rows)
