@@ -3,3 +3,4 @@ pub mod AloneWords
 pub mod CleanRuns
 pub mod AsInOrder
 pub mod Accesses
+pub mod Limits

@@ -1,22 +1,46 @@
--- Branches alone: each branch of a fork from the memory at the fork, as if it were the only one (docs/CHECKING.md).
-use Rattle.std.specs.Prelude.{ℕ, ◌+◌, ◌-◌, ℤ, Bool, true, false, nat_lt, ◌||◌, List, [], ◌∷◌, ◌++◌, Option, None, Some}
-use Rattle.lq_tree.specs.declared.place.Place.{Place}
+-- Branches alone: each branch of a fork from the memory at the fork, as if it were the only one (docs/CHECKING.md, "What
+-- acceptance promises").
+use Rattle.std.specs.Prelude.{ℕ, ◌+◌, ◌-◌, ◌==◌, ℤ, Bool, true, false, not, ◌&&◌, ◌||◌, nat_lt, List, [], ◌∷◌, ◌++◌, sum_by, slice_get, Option, None, Some}
+use Rattle.std.specs.List.{list_any, list_all, flat_map, filter_map}
+use Rattle.std.specs.Option.{is_some}
 use Rattle.lq_meaning.specs.Memory.{Blocks, Address, reach, with_word}
-use Rattle.lq_meaning.specs.World.{World, Action, Load, Store, Acted, Answers, Traps, Strays, act}
-use Rattle.lq_meaning.specs.Ending.{Trap, Ending, Trapped, Strayed, Spent}
-use Rattle.lq_machine.specs.Task.{Task, Ended, Due, Fork, Tasks, none, more, or_else}
-use Rattle.lq_machine.specs.Run.{ending_of}
+use Rattle.lq_meaning.specs.World.{World, Action, Load, Store, act}
+use Rattle.lq_meaning.specs.Ending.{Ending, Trapped, Strayed, Spent, Unruled}
+use Rattle.lq_meaning.specs.Control.{Came, Gives, Stops, go_on, Run, answered}
+use Rattle.lq_machine.specs.Task.{Task, Ended, Due, Fork, Tasks, none, more}
 
 -- an access: an address, and the word that is written there, if it is a store
 pub record Access : Type 0 where
   pub address : Address
   pub written : Option ℤ
 
--- what branches alone come to: an ending, the world that is left, and the accesses in their order
+-- What branches alone come to: an ending, the world that is left, the accesses in their order, and whether at each fork the
+-- accesses of different branches don't clash.
 pub record Alone : Type 0 where
   pub ending : Ending
   pub world : World
   pub accesses : List Access
+  pub apart : Bool
+
+-- ---- accesses that clash
+
+abbrev pub same_address : Address → Address → Bool
+same_address a b = a.block == b.block && a.element == b.element && a.field == b.field
+
+-- two accesses of one address, of which at least one is a store
+abbrev pub clash : Access → Access → Bool
+clash a b = same_address a.address b.address && (is_some a.written || is_some b.written)
+
+-- no access of the one clashes with one of the other
+abbrev pub are_apart : List Access → List Access → Bool
+are_apart accesses others = not (list_any (λ a. list_any (clash a) others) accesses)
+
+-- no two different branches clash
+abbrev pub pairwise_apart : List Alone → Bool
+pairwise_apart [] = true
+pairwise_apart (branch ∷ branches) = list_all (λ (other : Alone). are_apart branch.accesses other.accesses) branches && pairwise_apart branches
+
+-- ---- actions
 
 -- what an action accesses, where it lies in its block
 abbrev pub access : Option Address → Option ℤ → List Access
@@ -28,19 +52,6 @@ accesses_of (Load p index field) w = access (reach w.memory p index field) None
 accesses_of (Store p index field word) w = access (reach w.memory p index field) (Some word)
 accesses_of _ w = []
 
--- with these accesses in front
-abbrev pub behind : List Access → Alone → Alone
-behind accesses a = record a { accesses = accesses ++ a.accesses }
-
-abbrev pub ends : Ending → World → Alone
-ends ending w = record { ending = ending; world = w; accesses = [] }
-
--- goes on with the answer of an action
-abbrev pub answered : Place → Acted → (ℤ → World → Alone) → Alone
-answered at (Answers word w) go = go word w
-answered at (Traps kind w) go = ends (Trapped (record { kind = kind; at = at })) w
-answered at (Strays w) go = ends (Strayed at) w
-
 -- a memory after accesses
 abbrev pub write : Blocks → Address → Option ℤ → Blocks
 write memory a None = memory
@@ -50,97 +61,90 @@ abbrev pub after : Blocks → List Access → Blocks
 after memory [] = memory
 after memory (a ∷ accesses) = after (write memory a.address a.written) accesses
 
--- the memory of a fork with each address that a branch wrote replaced by the last such branch's word
-abbrev pub merged : Blocks → List Alone → Blocks
-merged memory [] = memory
-merged memory (branch ∷ branches) = merged (after memory branch.accesses) branches
+-- ---- forks
 
--- what branches cost together, each from the cost at the fork
-abbrev pub cost_together : ℕ → List Alone → ℕ
-cost_together cost [] = 0
-cost_together cost (branch ∷ branches) = (branch.world.cost - cost) + cost_together cost branches
+-- the accesses of all branches, one branch behind the other
+abbrev pub all_accesses : List Alone → List Access
+all_accesses branches = flat_map (λ (branch : Alone). branch.accesses) branches
 
--- the first stray
-abbrev pub stray_of : Ending → Option Place
-stray_of (Strayed at) = Some at
-stray_of _ = None
+-- The world behind a fork: its memory after the accesses of all branches, so that each address has the word of the last
+-- branch that wrote it; each branch costs what it took from the cost at the fork on.
+abbrev pub merged : World → List Alone → World
+merged w branches =
+    record w { memory = after w.memory (all_accesses branches); cost = w.cost + sum_by (λ (branch : Alone). branch.world.cost - w.cost) branches }
 
-abbrev pub or_first : Option Place → Option Place → Option Place
-or_first None later = later
-or_first (Some at) later = Some at
+-- a stray ends the whole run, and so does a form without a rule
+abbrev pub halting : Ending → Option Ending
+halting (Strayed at) = Some (Strayed at)
+halting Unruled = Some Unruled
+halting ending = None
 
-abbrev pub first_stray : List Alone → Option Place
-first_stray [] = None
-first_stray (branch ∷ branches) = or_first (stray_of branch.ending) (first_stray branches)
+-- a trap ends the parent, behind all branches
+abbrev pub trapping : Ending → Option Ending
+trapping (Trapped trap) = Some (Trapped trap)
+trapping ending = None
 
--- a branch whose fuel is spent
 abbrev pub is_spent : Ending → Bool
 is_spent Spent = true
-is_spent _ = false
+is_spent ending = false
 
-abbrev pub some_spent : List Alone → Bool
-some_spent [] = false
-some_spent (branch ∷ branches) = is_spent branch.ending || some_spent branches
-
--- the first trap
-abbrev pub trap_of : Ending → Option Trap
-trap_of (Trapped trap) = Some trap
-trap_of _ = None
-
-abbrev pub first_trap : List Alone → Option Trap
-first_trap [] = None
-first_trap (branch ∷ branches) = or_else (trap_of branch.ending) (first_trap branches)
-
-abbrev pub all_accesses : List Alone → List Access
-all_accesses [] = []
-all_accesses (branch ∷ branches) = branch.accesses ++ all_accesses branches
-
--- the world behind a fork whose branches have all ended, done or trapped, within the fuel
-abbrev pub joined : World → List Alone → World
-joined w branches = record w { memory = merged w.memory branches; cost = w.cost + cost_together w.cost branches }
-
--- what a fork comes to: its parent goes on, or the run ends
-pub data Met : Type 0 where
-  Continues : World → Met
-  Stops : Ending → World → Met
-
-abbrev pub or_trap : Option Trap → World → Met
-or_trap None w = Continues w
-or_trap (Some trap) w = Stops (Trapped trap) w
+-- stops with the first such ending of a branch
+abbrev pub or_first : (Ending → Option Ending) → List Alone → Run (Unit {0})
+or_first such branches w = stops (slice_get (filter_map (λ (branch : Alone). such branch.ending) branches) 0) where
+  stops : Option Ending → Came (Unit {0})
+  stops None = Gives tt w
+  stops (Some ending) = Stops ending w
 
 -- where a branch has spent its fuel, or all together cost more than there is, the fuel is spent
-abbrev pub or_spent : (spent : Bool) → (fuel : ℕ) → List Alone → World → Met
-or_spent true fuel branches w = Stops Spent (record w { cost = fuel })
-or_spent false fuel branches w = or_trap (first_trap branches) (joined w branches)
+abbrev pub or_spent : (spent : Bool) → (fuel : ℕ) → Run (Unit {0})
+or_spent true fuel w = Stops Spent (record w { cost = fuel })
+or_spent false fuel w = Gives tt w
 
--- a stray ends the run
-abbrev pub or_stray : Option Place → (fuel : ℕ) → List Alone → World → Met
-or_stray None fuel branches w = or_spent (some_spent branches || nat_lt fuel (joined w branches).cost) fuel branches w
-or_stray (Some at) fuel branches w = Stops (Strayed at) w
+-- what comes of a fork whose branches came to these
+abbrev pub joined : (fuel : ℕ) → List Alone → Run (Unit {0})
+joined fuel branches w =
+    go_on (or_first halting branches w) (λ _ w.
+    go_on (or_spent (list_any (λ (branch : Alone). is_spent branch.ending) branches || nat_lt fuel (merged w branches).cost) fuel w) (λ _ w.
+    or_first trapping branches (merged w branches)))
 
-abbrev pub met : (fuel : ℕ) → List Alone → World → Met
-met fuel branches w = or_stray (first_stray branches) fuel branches w
+-- ---- tasks
 
--- goes on behind a fork
-abbrev pub then_alone : Met → (World → Alone) → Alone
-then_alone (Continues w) go = go w
-then_alone (Stops ending w) go = ends ending w
+abbrev pub ends : Ending → World → Alone
+ends ending w = record { ending = ending; world = w; accesses = []; apart = true }
+
+-- goes on with what came
+abbrev pub alone_behind : {X : Type 0} → Came X → (X → World → Alone) → Alone
+alone_behind (Gives x w) next = next x w
+alone_behind (Stops ending w) next = ends ending w
+
+-- behind these accesses
+abbrev pub behind : List Access → Alone → Alone
+behind accesses a = record a { accesses = accesses ++ a.accesses }
+
+-- behind a fork of these branches
+abbrev pub behind_fork : List Alone → Alone → Alone
+behind_fork branches a = record {
+  ending = a.ending;
+  world = a.world;
+  accesses = all_accesses branches ++ a.accesses;
+  apart = list_all (λ (branch : Alone). branch.apart) branches && pairwise_apart branches && a.apart;
+}
 
 -- goes on where there is fuel for an action
 abbrev pub within : Bool → World → (World → Alone) → Alone
-within true w go = go w
-within false w go = ends Spent w
+within true w next = next w
+within false w next = ends Spent w
 
 -- branches alone: each has the whole rest of the fuel
 abbrev mutual
   pub alone : (fuel : ℕ) → Task → World → Alone
-  alone fuel (Ended trap) w = ends (ending_of trap) w
+  alone fuel (Ended ending) w = ends ending w
   alone fuel (Due at action next) w =
       within (nat_lt w.cost fuel) w (λ w.
-      behind (accesses_of action w) (answered at.place (act action w) (λ word w. alone fuel (next word) w)))
+      behind (accesses_of action w) (alone_behind (answered at.place (act action w)) (λ word w. alone fuel (next word) w)))
   alone fuel (Fork children parent) w =
       let branches = alone_each fuel children w in
-      behind (all_accesses branches) (then_alone (met fuel branches w) (alone fuel parent))
+      behind_fork branches (alone_behind (joined fuel branches w) (λ _ w. alone fuel parent w))
 
   pub alone_each : (fuel : ℕ) → Tasks → World → List Alone
   alone_each fuel none w = []

@@ -9,3 +9,4 @@ pub mod Traps
 pub mod Squares
 pub mod Paths
 pub mod Sort
+pub mod Iterations

@@ -1,74 +1,87 @@
--- Two results from one world, by two fuels: a relation that each way of putting parts together keeps.
-use Rattle.std.proofs.Common.{ℕ, zero, suc, ◌≤◌, ℤ, pos, negsuc, ◌+ℤ◌, Bool, true, false, Option, None, Some, arith}
+-- Two runs of the same parts, by two fuels: a relation that each way of putting parts together keeps.
+use Rattle.std.proofs.Common.{◌≡◌, ℕ, zero, suc, ◌≤◌, ◌^◌, ℤ, pos, negsuc, ◌+ℤ◌, Bool, true, false, nat_lt, if◌then◌else◌, List, [], length, Option, None, Some, refl, arith}
+use Rattle.std.specs.Option.{option_or}
 use Rattle.lq_tree.specs.declared.place.Place.{Place}
 use Rattle.lq_meaning.specs.World.{World, Action, Start, Test}
 use Rattle.lq_meaning.specs.Ending.{Trap, Ending, Spent, Trapped}
 use Rattle.lq_meaning.specs.Operators.{Computed, Computes, Fails}
-use Rattle.lq_meaning.specs.Control.{trapped, Evaluated, Gives, Stops, with_word_of, computed, due, by_truth, Executed, GoesOn, Returns, Halts, with_word, then_do, tested, loop, after_branch, joined, iterations, iteration_count, unless_many, each, returned}
+use Rattle.lq_meaning.specs.Control.{trapped, Run, give, stop, ◌⨾◌, computed, due, by_truth, Flow, GoesOn, Returns, Statement, unless_returned, ◌then_do◌, tested, loop, branch, before, joined, iterations, iteration_count, each, returned}
+use Rattle.lq_meaning.specs.Entry.{start, start_on, arguments, enter}
 
--- each way of putting parts together keeps the relations, of expressions and of statements
-pub record IsKept (L : Type 0) (fuel more : ℕ) (E : World → Evaluated → Evaluated → Type 0) (X : World → Executed L → Executed L → Type 0) : Type 0 where
-  pub gives : (word : ℤ) (w : World) → E w (Gives word w) (Gives word w)
-  pub stops : (ending : Ending) (w : World) → E w (Stops ending w) (Stops ending w)
-  pub due : (at : Place) (action : Action) (w : World) → E w (due fuel at action w) (due more at action w)
-  pub with_word_of : {w : World} {a b : Evaluated} {go other : ℤ → World → Evaluated} → E w a b → ((word : ℤ) (v : World) → E v (go word v) (other word v)) → E w (with_word_of a go) (with_word_of b other)
-  pub goes_on : (locals : L) (w : World) → X w (GoesOn locals w) (GoesOn locals w)
-  pub returns : (word : ℤ) (w : World) → X w (Returns word w) (Returns word w)
-  pub halts : (ending : Ending) (w : World) → X w (Halts ending w) (Halts ending w)
+-- each way of putting parts together keeps the relation
+pub record IsKept (fuel more : ℕ) (K : (X : Type 0) → Run X → Run X → Type 0) : Type 1 where
+  pub gives : {X : Type 0} (x : X) → K X (give x) (give x)
+  pub stops : {X : Type 0} (ending : Ending) → K X (stop ending) (stop ending)
   -- where the first run is out of fuel, the second may go on
-  pub spent : (w : World) (b : Executed L) → X w (Halts Spent w) b
-  pub with_word : {w : World} {a b : Evaluated} {go other : ℤ → World → Executed L} → E w a b → ((word : ℤ) (v : World) → X v (go word v) (other word v)) → X w (with_word a go) (with_word b other)
-  pub then_do : {w : World} {a b : Executed L} {next other : L → World → Executed L} → X w a b → ((locals : L) (v : World) → X v (next locals v) (other locals v)) → X w (then_do a next) (then_do b other)
-  pub after_branch : {w : World} {a b : Executed L} {next other : Option Trap → World → Executed L} → X w a b → (first : Option Trap) → ((first : Option Trap) (v : World) → X v (next first v) (other first v)) → X w (after_branch a first next) (after_branch b first other)
-  pub returned : {w : World} {a b : Executed L} → X w a b → E w (returned a) (returned b)
+  pub spent : {X : Type 0} (other : Run X) → K X (stop Spent) other
+  pub due : (at : Place) (action : Action) → K ℤ (due fuel at action) (due more at action)
+  pub goes : {X Y : Type 0} {first first' : Run X} {next next' : X → Run Y} → K X first first' → ((x : X) → K Y (next x) (next' x)) → K Y (first ⨾ next) (first' ⨾ next')
+  pub branch : {L : Type 0} {run run' : Run (Flow L)} → K (Flow L) run run' → K (Option Trap) (branch run) (branch run')
 
-module _ {L : Type 0} {fuel more : ℕ} {E : World → Evaluated → Evaluated → Type 0} {X : World → Executed L → Executed L → Type 0} (k : IsKept L fuel more E X) where
-  pub computed_kept : (at : Place) (c : Computed) (w : World) → E w (computed at c w) (computed at c w)
-  computed_kept at (Computes x) w = k.gives x w
-  computed_kept at (Fails kind) w = k.stops (trapped kind at) w
+-- one of two by a test
+either : {R : Type 0} (O : R → R → Type 0) {holds holds' fails fails' : R} (test : Bool) → O holds holds' → O fails fails' → O (if test then holds else fails) (if test then holds' else fails')
+either O true holds fails = holds
+either O false holds fails = fails
 
-  -- either way of an expression
-  pub truth_kept : {go other go' other' : World → Evaluated} (word : ℤ) → ((v : World) → E v (go v) (go' v)) → ((v : World) → E v (other v) (other' v)) → (w : World) → E w (by_truth word go other w) (by_truth word go' other' w)
-  truth_kept (pos zero) goes others w = others w
-  truth_kept (pos (suc n)) goes others w = goes w
-  truth_kept (negsuc n) goes others w = goes w
+-- what holds of a refusal and of each entry from a world that cost nothing, holds of how `main` is entered
+pub enter_kept : {R : Type 0} (O : R → R → Type 0) {refused refused' : World → R} {entered entered' : List ℤ → World → R} (params words : ℕ) (input : List ℤ)
+    → ((w : World) → w.cost ≡ 0 → O (refused w) (refused' w)) → ((arguments : List ℤ) (w : World) → w.cost ≡ 0 → O (entered arguments w) (entered' arguments w))
+    → O (enter refused entered params words input) (enter refused' entered' params words input)
+enter_kept O zero words input refuses enters = enters [] (start words) refl
+enter_kept O (suc n) words input refuses enters = either O (nat_lt words (length input)) (refuses (start words) refl) (enters (arguments input) (start_on words input) refl)
 
-  -- either way of a statement
-  pub branch_kept : {go other go' other' : World → Executed L} (word : ℤ) → ((v : World) → X v (go v) (go' v)) → ((v : World) → X v (other v) (other' v)) → (w : World) → X w (by_truth word go other w) (by_truth word go' other' w)
-  branch_kept (pos zero) goes others w = others w
-  branch_kept (pos (suc n)) goes others w = goes w
-  branch_kept (negsuc n) goes others w = goes w
+module _ {fuel more : ℕ} {K : (X : Type 0) → Run X → Run X → Type 0} (k : IsKept fuel more K) where
+  -- so do two statements with any locals
+  abbrev pub Keeps : {L : Type 0} → Statement L → Statement L → Type 0
+  Keeps {L} first second = (locals : L) → K (Flow L) (first locals) (second locals)
 
-  pub tested_kept : {w : World} {a b : Evaluated} (at : Place) → E w a b → E w (tested fuel at a) (tested more at b)
-  tested_kept at kept = k.with_word_of kept (λ word v. k.with_word_of (k.due at Test v) (λ _ u. k.gives word u))
+  pub computed_kept : (at : Place) (c : Computed) → K ℤ (computed at c) (computed at c)
+  computed_kept at (Computes x) = k.gives x
+  computed_kept at (Fails kind) = k.stops (trapped kind at)
+
+  pub by_truth_kept : {X : Type 0} {holds holds' fails fails' : Run X} (word : ℤ) → K X holds holds' → K X fails fails' → K X (by_truth word holds fails) (by_truth word holds' fails')
+  by_truth_kept (pos zero) holds fails = fails
+  by_truth_kept (pos (suc n)) holds fails = holds
+  by_truth_kept (negsuc n) holds fails = holds
+
+  pub unless_returned_kept : {L : Type 0} {next next' : Statement L} → Keeps next next' → (flow : Flow L) → K (Flow L) (unless_returned next flow) (unless_returned next' flow)
+  unless_returned_kept nexts (GoesOn locals) = nexts locals
+  unless_returned_kept nexts (Returns word) = k.gives (Returns word)
+
+  pub then_do_kept : {L : Type 0} {first first' : Run (Flow L)} {next next' : Statement L} → K (Flow L) first first' → Keeps next next' → K (Flow L) (first then_do next) (first' then_do next')
+  then_do_kept firsts nexts = k.goes firsts (unless_returned_kept nexts)
+
+  pub tested_kept : {condition condition' : Run ℤ} (at : Place) → K ℤ condition condition' → K ℤ (tested fuel at condition) (tested more at condition')
+  tested_kept at conditions = k.goes conditions (λ word. k.goes (k.due at Test) (λ _. k.gives word))
 
   -- a loop, where the second run may make more turns
-  pub loop_kept : {test other : L → World → (ℤ → L → World → Executed L) → Executed L} {body next : L → World → Executed L} (n m : ℕ) → n ≤ m
-      → ((locals : L) (w : World) (go go' : ℤ → L → World → Executed L) → ((word : ℤ) (inner : L) (v : World) → X v (go word inner v) (go' word inner v)) → X w (test locals w go) (other locals w go'))
-      → ((locals : L) (w : World) → X w (body locals w) (next locals w))
-      → (locals : L) (w : World) → X w (loop n test body locals w) (loop m other next locals w)
+  pub loop_kept : {L : Type 0} {head head' body body' : Statement L} {test test' : L → Run ℤ} (n m : ℕ) → n ≤ m → Keeps head head' → ((locals : L) → K ℤ (test locals) (test' locals)) → Keeps body body'
+      → Keeps (loop n head test body) (loop m head' test' body')
   unfolding loop
-  loop_kept zero m fits tests bodies locals w = k.spent w _
-  loop_kept (suc n) zero fits tests bodies locals w = absurd (omega arith)
-  loop_kept (suc n) (suc m) fits tests bodies locals w =
-      tests locals w _ _ (λ word inner. branch_kept word (λ v. k.then_do (bodies inner v) (loop_kept n m (omega arith) tests bodies)) (k.goes_on inner))
+  loop_kept zero m fits heads tests bodies locals = k.spent (loop m _ _ _ locals)
+  loop_kept (suc n) zero fits heads tests bodies locals = absurd (omega arith)
+  loop_kept (suc n) (suc m) fits heads tests bodies locals =
+      then_do_kept (heads locals) (λ inner. k.goes (tests inner) (λ word.
+      by_truth_kept word (then_do_kept (bodies inner) (loop_kept n m (omega arith) heads tests bodies)) (k.gives (GoesOn inner))))
 
-  pub joined_kept : (locals : L) (first : Option Trap) (w : World) → X w (joined locals first w) (joined locals first w)
-  joined_kept locals None w = k.goes_on locals w
-  joined_kept locals (Some trap) w = k.halts (Trapped trap) w
+  pub before_kept : {first first' others others' : Run (Option Trap)} → K (Option Trap) first first' → K (Option Trap) others others' → K (Option Trap) (before first others) (before first' others')
+  before_kept firsts others = k.goes firsts (λ trap. k.goes others (λ later. k.gives (option_or trap later)))
 
-  pub iterations_kept : {body other : ℤ → World → Executed L} (at : Place) (n : ℕ) (index : ℤ) (step : ℕ) → ((i : ℤ) (w : World) → X w (body i w) (other i w)) → (locals : L) (first : Option Trap) (w : World)
-      → X w (iterations fuel at n index step body locals first w) (iterations more at n index step other locals first w)
+  pub joined_kept : {L : Type 0} (locals : L) (trap : Option Trap) → K (Flow L) (joined locals trap) (joined locals trap)
+  joined_kept locals None = k.gives (GoesOn locals)
+  joined_kept locals (Some trap) = k.stops (Trapped trap)
+
+  iterations_kept : {iteration iteration' : ℤ → Run (Option Trap)} (n : ℕ) (index : ℤ) (step : ℕ) → ((i : ℤ) → K (Option Trap) (iteration i) (iteration' i))
+      → K (Option Trap) (iterations n index step iteration) (iterations n index step iteration')
   unfolding iterations
-  iterations_kept at zero index step bodies locals first w = joined_kept locals first w
-  iterations_kept at (suc n) index step bodies locals first w =
-      k.after_branch (k.with_word (k.due at Start w) (λ _ v. bodies index v)) first (iterations_kept at n (index +ℤ pos step) step bodies locals)
+  iterations_kept zero index step each = k.gives None
+  iterations_kept (suc n) index step each = before_kept (each index) (iterations_kept n (index +ℤ pos step) step each)
 
-  unless_many_kept : {go other : World → Executed L} (many : Bool) (at : Place) → ((v : World) → X v (go v) (other v)) → (w : World) → X w (unless_many many at go w) (unless_many many at other w)
-  unless_many_kept true at goes w = k.halts _ w
-  unless_many_kept false at goes w = goes w
+  pub each_kept : {L : Type 0} {body body' : ℤ → Run (Flow L)} (at : Place) (low high : ℤ) (step : ℕ) → ((i : ℤ) → K (Flow L) (body i) (body' i)) → K (Option Trap) (each fuel at low high step body) (each more at low high step body')
+  each_kept at low high step bodies =
+      either (K (Option Trap)) (nat_lt (2 ^ 20) (iteration_count low high step)) (k.stops _)
+      (iterations_kept (iteration_count low high step) low step (λ i. k.branch (k.goes (k.due at Start) (λ _. bodies i))))
 
-  pub each_kept : {body other : ℤ → World → Executed L} (at : Place) (low high : ℤ) (step : ℕ) → ((i : ℤ) (w : World) → X w (body i w) (other i w)) → (locals : L) (w : World)
-      → X w (each fuel at low high step body locals w) (each more at low high step other locals w)
-  each_kept at low high step bodies locals w =
-      unless_many_kept _ at (iterations_kept at (iteration_count low high step) low step bodies locals None) w
+  pub returned_kept : {L : Type 0} (flow : Flow L) → K ℤ (returned flow) (returned flow)
+  returned_kept (GoesOn locals) = k.gives (pos 0)
+  returned_kept (Returns word) = k.gives word

@@ -4,4 +4,3 @@ pub mod PlainWords
 pub mod Outcomes
 pub mod sources
 pub mod plain
-pub mod Formed

@@ -26,6 +26,7 @@ IsOfRun SinkFault = ⊥
 IsOfRun NoMemory = ⊥
 IsOfRun _ = ⊤
 
+-- the end is that of a sink that failed
 abbrev pub IsSinkFault : End → Type 0
 IsSinkFault SinkFault = ⊤
 IsSinkFault _ = ⊥

@@ -1,5 +1,4 @@
 -- How a run ends (docs/LANGUAGE.md, "Traps" and "Fuel").
-use Rattle.std.specs.Prelude.{Option, None, Some}
 use Rattle.lq_tree.specs.declared.place.Place.{Place}
 use Rattle.lq_tree.specs.declared.trap.TrapKind.{TrapKind}
 use Rattle.lq_meaning.specs.World.{World}
@@ -9,6 +8,7 @@ pub record Trap : Type 0 where
   pub kind : TrapKind
   pub at : Place
 
+-- the ways in which a run ends
 pub data Ending : Type 0 where
   Done : Ending
   Trapped : Trap → Ending
@@ -23,8 +23,3 @@ pub data Ending : Type 0 where
 pub record Outcome : Type 0 where
   pub ending : Ending
   pub world : World
-
--- of the traps of branches that of the first in source order counts
-abbrev pub earlier : Option Trap → Trap → Option Trap
-earlier None trap = Some trap
-earlier (Some first) trap = Some first

@@ -1,5 +1,5 @@
 -- How `main` is entered (docs/LANGUAGE.md, "Entry of main").
-use Rattle.std.specs.Prelude.{ℕ, ◌-◌, ℤ, pos, List, [], ◌∷◌, length}
+use Rattle.std.specs.Prelude.{ℕ, zero, suc, ◌-◌, ℤ, pos, nat_lt, if◌then◌else◌, List, [], ◌∷◌, length}
 use Rattle.lq_meaning.specs.Word.{null, pointer}
 use Rattle.lq_meaning.specs.Memory.{Blocks}
 use Rattle.lq_meaning.specs.World.{World}
@@ -26,5 +26,12 @@ input_pointer (x ∷ input) = pointer 1 0
 abbrev pub start_on : (words : ℕ) → List ℤ → World
 start_on words input = opening (input_memory input) (words - length input)
 
+-- the pointer to the input, and how many numbers it has
 abbrev pub arguments : List ℤ → List ℤ
 arguments input = input_pointer input ∷ pos (length input) ∷ []
+
+-- `main` by the number of its parameters: with some the input must fit into the words, or the run is refused
+abbrev pub enter : {R : Type 0} → (refused : World → R) → (entered : List ℤ → World → R) → (params words : ℕ) → List ℤ → R
+enter refused entered zero words input = entered [] (start words)
+enter refused entered (suc n) words input =
+    if nat_lt words (length input) then refused (start words) else entered (arguments input) (start_on words input)

@@ -9,4 +9,6 @@ pub mod Meaning
 pub mod End
 pub mod Words
 pub mod PlainMeaning
+pub mod Agree
 pub mod Laws
+pub mod PlainLaws

@@ -1,272 +1,228 @@
 -- The sequential execution of a source (docs/LANGUAGE.md, "Evaluation" and "Sequential execution").
 -- A form that only an ill-named source has has no meaning here, and ends the run as Unruled.
-use Rattle.std.specs.Prelude.{ℕ, zero, suc, ◌-◌, ℤ, pos, nat_lt, ◌==◌, Bool, if◌then◌else◌, List, [], ◌∷◌, length, drop, map, reverse, Option, None, Some, codes}
+use Rattle.std.specs.Prelude.{ℕ, zero, suc, ◌-◌, ℤ, pos, nat_abs, Bool, List, [], ◌∷◌, length, drop, Option, None, Some, codes}
 use Rattle.lq_tree.specs.declared.place.Place.{Place}
 use Rattle.lq_tree.specs.declared.trap.TrapKind.TheVariants.{Words}
-use Rattle.lq_tree.specs.declared.expr.Base.{Base}
-use Rattle.lq_tree.specs.declared.expr.Base.TheVariants.{Int, Struct}
-use Rattle.lq_tree.specs.declared.expr.CType.{CType}
 use Rattle.lq_tree.specs.declared.expr.BinOp.{BinOp}
 use Rattle.lq_tree.specs.declared.expr.BinOp.TheVariants.{And, Or}
 use Rattle.lq_tree.specs.declared.expr.Expr.{Expr, Num, Var, Neg', Not', Bin', Index', Deref', Arrow', Dot', Call' as CallExpr', Calloc', Row_of-Expr, end_of-Expr, more_of-Expr}
-use Rattle.lq_tree.specs.declared.stmt.StmtKind.{StmtKind, Empty, Block', Local, Set, Store, Call, If', While', For', Print, Return, Cobegin', Foreach', Row_of-Stmt, end_of-Stmt, more_of-Stmt, Row_of-Arm, end_of-Arm, more_of-Arm, None', Some', Held-StmtKind-If-1}
+use Rattle.lq_tree.specs.declared.stmt.StmtKind.{StmtKind, Empty, Block', Local as Declare, Set, Store, Call, If', While', For', Print, Return, Cobegin', Foreach', Row_of-Stmt, end_of-Stmt, more_of-Stmt, Row_of-Arm, end_of-Arm, more_of-Arm, None', Some', Held-StmtKind-If-1}
 use Rattle.lq_tree.specs.declared.stmt.Stmt.{Stmt}
 use Rattle.lq_tree.specs.declared.stmt.Arm.{Arm, Arm'}
-use Rattle.lq_tree.specs.declared.program.StructDef.{StructDef}
 use Rattle.lq_tree.specs.declared.program.Param.{Param}
 use Rattle.lq_tree.specs.declared.program.Func.{Func}
 use Rattle.lq_tree.specs.declared.program.Program.{Program}
-use Rattle.lq_tree.specs.Types.{same, Ty, Number, Element, Variable, declared, struct_of, function_of, element_of, is_pointer, row_type}
-use Rattle.lq_meaning.specs.World.{World, Allocate, Load, Store as StoreWord, Print as PrintNumber, Enter}
+use Rattle.lq_tree.specs.Lookup.{function_of}
+use Rattle.lq_tree.specs.Types.{Ty, Number, declared, element_of, is_pointer, row_type}
+use Rattle.lq_tree.specs.Locals.{Local, what_of, with_what, variables_of}
+use Rattle.lq_tree.specs.Layout.{fields_of, field_number}
+use Rattle.lq_meaning.specs.World.{Allocate, Print as PrintNumber, Enter}
 use Rattle.lq_meaning.specs.Ending.{Trap, Unruled, Outcome}
 use Rattle.lq_meaning.specs.Operators.{negation, truth, truth_of, is_zero, binary}
-use Rattle.lq_meaning.specs.Control.{trapped, Evaluated, Gives, Stops, with_word_of, computed, due, by_truth, Executed, GoesOn, Returns, Halts, with_word, then_do, tested, turns, loop, after_branch, joined, each, returned, ended}
-use Rattle.lq_meaning.specs.Entry.{start, start_on, arguments}
+use Rattle.lq_meaning.specs.Control.{trapped, Run, give, stop, ◌⨾◌, computed, due, by_truth, Target, load, store, Flow, GoesOn, Returns, Statement, done_with, ◌then_do◌, tested, loop, branch, before, joined, each, returned, ended}
+use Rattle.lq_meaning.specs.Entry.{start, enter}
 
 -- what stays the same while a function is active: the source, the fuel, and what a call comes to
 pub record Context : Type 0 where
   pub program : Program
   pub fuel : ℕ
   -- of the function with this name on these arguments, at a place
-  pub call : Place → List ℕ → List ℤ → World → Evaluated
+  pub call : Place → List ℕ → List ℤ → Run ℤ
 
--- a local, its type and its word, the innermost first
-pub record Binding : Type 0 where
-  pub name : List ℕ
-  pub type : Ty
-  pub word : ℤ
-
+-- the locals in scope and their words
 abbrev pub Locals : Type 0
-Locals = List Binding
+Locals = List (Local ℤ)
 
--- the word of a local
+-- a local of this name and type, with its word
+abbrev pub local : List ℕ → Ty → ℤ → Local ℤ
+local name type word = record { name = name; type = type; what = word }
+
+-- the word of the local with this name
 abbrev pub word_of : Locals → List ℕ → ℤ
-word_of [] name = pos 0
-word_of (b ∷ locals) name = if same b.name name then b.word else word_of locals name
-
--- the locals with another word in the one of this name
-abbrev pub with_local : Locals → List ℕ → ℤ → Locals
-with_local [] name word = []
-with_local (b ∷ locals) name word = if same b.name name then record b { word = word } ∷ locals else b ∷ with_local locals name word
+word_of locals name = what_of (pos 0) locals name
 
 -- the type of the one expression of a box, by those of the locals
-abbrev pub scope_of : Locals → List Variable
-scope_of locals = reverse (map (λ (b : Binding). record { name = b.name; type = b.type }) locals)
-
 abbrev pub type_by : {n : _} → Context → Locals → Row_of-Expr n → Ty
-type_by c locals row = row_type c.program (scope_of locals) row
+type_by c locals row = row_type c.program (variables_of locals) row
 
--- how many fields an element of a type has: a number and a pointer are one word
-abbrev pub fields_of_struct : Option StructDef → ℕ
-fields_of_struct None = 0
-fields_of_struct (Some s) = length s.fields
+-- what an expression comes to: a value, or an element and a field, which are read for their value (C11 6.3.2.1)
+pub data Found : Type 0 where
+  Value : ℤ → Found
+  Names : Target → Found
 
-abbrev pub fields_of_base : List StructDef → Base → ℕ
-fields_of_base structs Int = 1
-fields_of_base structs (Struct name) = fields_of_struct (struct_of structs name)
+-- the element at an index from a pointer, and a field of it
+abbrev pub target : (pointer index : ℤ) → (field : ℕ) → Target
+target pointer index field = record { pointer = pointer; index = index; field = field }
 
-abbrev pub fields_of : List StructDef → CType → ℕ
-fields_of structs type = if type.stars == 0 then fields_of_base structs type.base else 1
+-- comes to this value
+abbrev pub value : ℤ → Run Found
+value x = give (Value x)
 
--- the number of a field, from 0
-abbrev pub number_among : List Param → List ℕ → ℕ
-number_among [] name = 0
-number_among (f ∷ fields) name = if same f.name name then 0 else suc (number_among fields name)
+-- names this element and field
+abbrev pub names : (pointer index : ℤ) → (field : ℕ) → Run Found
+names pointer index field = give (Names (target pointer index field))
 
-abbrev pub number_in : Option StructDef → List ℕ → ℕ
-number_in None name = 0
-number_in (Some s) name = number_among s.fields name
+-- the value of what was found
+abbrev pub value_of : Context → Place → Found → Run ℤ
+value_of c at (Value x) = give x
+value_of c at (Names t) = load c.fuel at t
 
--- the number of a field of the elements of this type
-abbrev pub field_number : List StructDef → Ty → List ℕ → ℕ
-field_number structs (Element struct) name = number_in (struct_of structs struct) name
-field_number structs _ name = 0
+-- the element and the field that were found
+abbrev pub target_of : Found → Run Target
+target_of (Value x) = stop Unruled
+target_of (Names t) = give t
 
--- the number of the field behind an arrow and of the one behind a dot, by the types of their left sides
-abbrev pub pointed_field : {n : _} → Context → Locals → Row_of-Expr n → List ℕ → ℕ
-pointed_field c locals base field = field_number c.program.structs (element_of (type_by c locals base)) field
-
-abbrev pub own_field : {n : _} → Context → Locals → Row_of-Expr n → List ℕ → ℕ
-own_field c locals element field = field_number c.program.structs (type_by c locals element) field
+-- the field of an element that was found
+abbrev pub dotted : ℕ → Found → Run Found
+dotted field found = target_of found ⨾ λ t. names t.pointer t.index field
 
 -- an operator; `&&` and `||` stop early (C11 6.5.13, 6.5.14)
-abbrev pub operated : Place → (pointer : Bool) → BinOp → (left right : World → Evaluated) → World → Evaluated
-operated at pointer And left right w =
-    with_word_of (left w) (λ x. by_truth x (λ w. with_word_of (right w) (λ y w. Gives (truth_of y) w)) (Gives (pos 0)))
-operated at pointer Or left right w =
-    with_word_of (left w) (λ x. by_truth x (Gives (pos 1)) (λ w. with_word_of (right w) (λ y w. Gives (truth_of y) w)))
-operated at pointer op left right w =
-    with_word_of (left w) (λ x w. with_word_of (right w) (λ y w. computed at (binary pointer op x y) w))
+abbrev pub operated : Place → (pointer : Bool) → BinOp → (left right : Run ℤ) → Run ℤ
+operated at pointer And left right = left ⨾ λ x. by_truth x (right ⨾ λ y. give (truth_of y)) (give (pos 0))
+operated at pointer Or left right = left ⨾ λ x. by_truth x (give (pos 1)) (right ⨾ λ y. give (truth_of y))
+operated at pointer op left right = left ⨾ λ x. right ⨾ λ y. computed at (binary pointer op x y)
 
--- evaluation, operands from left to right; an index, an arrow and a dot read what they name
+-- evaluation, operands from left to right; an index, an arrow and a dot only name what may be read or stored there
 abbrev mutual
-  pub eval : Context → Place → Locals → Expr → World → Evaluated
-  eval c at locals (Num n) w = Gives n w
-  eval c at locals (Var name) w = Gives (word_of locals name) w
-  eval c at locals (Neg' p e) w = with_word_of (eval_row c at locals e w) (λ x w. computed at (negation x) w)
-  eval c at locals (Not' p e) w = with_word_of (eval_row c at locals e w) (λ x w. Gives (truth (is_zero x)) w)
-  eval c at locals (Bin' op p a q b) w =
-      operated at (is_pointer (type_by c locals a)) op (eval_row c at locals a) (eval_row c at locals b) w
-  eval c at locals (Index' p base i index) w =
-      with_word_of (eval_row c at locals base w) (λ pointer w. with_word_of (eval_row c at locals index w) (λ i w. due c.fuel at (Load pointer i 0) w))
-  eval c at locals (Deref' p base) w = with_word_of (eval_row c at locals base w) (λ pointer w. due c.fuel at (Load pointer (pos 0) 0) w)
-  eval c at locals (Arrow' p base field) w =
-      with_word_of (eval_row c at locals base w) (λ pointer w. due c.fuel at (Load pointer (pos 0) (pointed_field c locals base field)) w)
-  eval c at locals (Dot' p element field) w =
-      reach_row c at locals element w (λ pointer i w. due c.fuel at (Load pointer i (own_field c locals element field)) w)
-  eval c at locals (CallExpr' name n args) w = eval_args c at locals args w (c.call at name)
-  eval c at locals (Calloc' n count type) w =
-      with_word_of (eval_row c at locals count w) (λ n w. due c.fuel at (Allocate n (fields_of c.program.structs type)) w)
+  pub find : Context → Place → Locals → Expr → Run Found
+  find c at locals (Num n) = value n
+  find c at locals (Var name) = value (word_of locals name)
+  find c at locals (Neg' p e) = eval_row c at locals e ⨾ λ x. computed at (negation x) ⨾ value
+  find c at locals (Not' p e) = eval_row c at locals e ⨾ λ x. value (truth (is_zero x))
+  find c at locals (Bin' op p a q b) =
+      operated at (is_pointer (type_by c locals a)) op (eval_row c at locals a) (eval_row c at locals b) ⨾ value
+  find c at locals (Index' p base i index) = eval_row c at locals base ⨾ λ pointer. eval_row c at locals index ⨾ λ i. names pointer i 0
+  find c at locals (Deref' p base) = eval_row c at locals base ⨾ λ pointer. names pointer (pos 0) 0
+  find c at locals (Arrow' p base field) =
+      eval_row c at locals base ⨾ λ pointer. names pointer (pos 0) (field_number c.program.structs (element_of (type_by c locals base)) field)
+  find c at locals (Dot' p element field) =
+      find_row c at locals element ⨾ dotted (field_number c.program.structs (type_by c locals element) field)
+  find c at locals (CallExpr' name n args) = eval_args c at locals args ⨾ c.call at name ⨾ value
+  find c at locals (Calloc' n count type) =
+      eval_row c at locals count ⨾ λ n. due c.fuel at (Allocate n (fields_of c.program.structs type)) ⨾ value
 
   -- the one expression of a box
-  pub eval_row : {n : _} → Context → Place → Locals → Row_of-Expr n → World → Evaluated
-  eval_row c at locals end_of-Expr w = Stops Unruled w
-  eval_row c at locals (more_of-Expr e rest) w = eval c at locals e w
+  pub find_row : {n : _} → Context → Place → Locals → Row_of-Expr n → Run Found
+  find_row c at locals end_of-Expr = stop Unruled
+  find_row c at locals (more_of-Expr e rest) = find c at locals e
 
-  -- the pointer and the index of an element, `p[i]` or `*p`
-  pub reach : Context → Place → Locals → Expr → World → (ℤ → ℤ → World → Evaluated) → Evaluated
-  reach c at locals (Index' p base i index) w go =
-      with_word_of (eval_row c at locals base w) (λ pointer w. with_word_of (eval_row c at locals index w) (λ i w. go pointer i w))
-  reach c at locals (Deref' p base) w go = with_word_of (eval_row c at locals base w) (λ pointer w. go pointer (pos 0) w)
-  reach c at locals _ w go = Stops Unruled w
-
-  pub reach_row : {n : _} → Context → Place → Locals → Row_of-Expr n → World → (ℤ → ℤ → World → Evaluated) → Evaluated
-  reach_row c at locals end_of-Expr w go = Stops Unruled w
-  reach_row c at locals (more_of-Expr e rest) w go = reach c at locals e w go
+  -- its value
+  pub eval_row : {n : _} → Context → Place → Locals → Row_of-Expr n → Run ℤ
+  eval_row c at locals end_of-Expr = stop Unruled
+  eval_row c at locals (more_of-Expr e rest) = find c at locals e ⨾ value_of c at
 
   -- arguments, from left to right
-  pub eval_args : {n : _} → Context → Place → Locals → Row_of-Expr n → World → (List ℤ → World → Evaluated) → Evaluated
-  eval_args c at locals end_of-Expr w go = go [] w
-  eval_args c at locals (more_of-Expr e rest) w go =
-      with_word_of (eval c at locals e w) (λ word w. eval_args c at locals rest w (λ words w. go (word ∷ words) w))
+  pub eval_args : {n : _} → Context → Place → Locals → Row_of-Expr n → Run (List ℤ)
+  eval_args c at locals end_of-Expr = give []
+  eval_args c at locals (more_of-Expr e rest) =
+      find c at locals e ⨾ value_of c at ⨾ λ word. eval_args c at locals rest ⨾ λ words. give (word ∷ words)
 
--- stores a value where a target leads
-abbrev pub store_at : Context → Place → Locals → (value : Expr) → (pointer index : ℤ) → (field : ℕ) → World → Evaluated
-store_at c at locals value pointer i field w = with_word_of (eval c at locals value w) (λ word w. due c.fuel at (StoreWord pointer i field word) w)
-
--- a store evaluates its base, its index and its value, in this order
-abbrev pub store_into : Context → Place → Locals → (target value : Expr) → World → Evaluated
-store_into c at locals (Index' p base i index) value w =
-    with_word_of (eval_row c at locals base w) (λ pointer w. with_word_of (eval_row c at locals index w) (λ i w. store_at c at locals value pointer i 0 w))
-store_into c at locals (Deref' p base) value w = with_word_of (eval_row c at locals base w) (λ pointer w. store_at c at locals value pointer (pos 0) 0 w)
-store_into c at locals (Arrow' p base field) value w =
-    with_word_of (eval_row c at locals base w) (λ pointer w. store_at c at locals value pointer (pos 0) (pointed_field c locals base field) w)
-store_into c at locals (Dot' p element field) value w =
-    reach_row c at locals element w (λ pointer i w. store_at c at locals value pointer i (own_field c locals element field) w)
-store_into c at locals _ value w = Stops Unruled w
+-- the value of an expression
+abbrev pub eval : Context → Place → Locals → Expr → Run ℤ
+eval c at locals e = find c at locals e ⨾ value_of c at
 
 -- the arguments of a call that is a statement
-abbrev pub eval_list : Context → Place → Locals → List Expr → World → (List ℤ → World → Evaluated) → Evaluated
-eval_list c at locals [] w go = go [] w
-eval_list c at locals (e ∷ args) w go = with_word_of (eval c at locals e w) (λ word w. eval_list c at locals args w (λ words w. go (word ∷ words) w))
+abbrev pub eval_list : Context → Place → Locals → List Expr → Run (List ℤ)
+eval_list c at locals [] = give []
+eval_list c at locals (e ∷ args) = eval c at locals e ⨾ λ word. eval_list c at locals args ⨾ λ words. give (word ∷ words)
 
-abbrev pub binding : List ℕ → Ty → ℤ → Binding
-binding name type word = record { name = name; type = type; word = word }
+-- the condition of a loop; a missing one is 1
+abbrev pub condition : Context → Place → Option Expr → Locals → Run ℤ
+condition c at None locals = give (pos 1)
+condition c at (Some e) locals = eval c at locals e
 
 -- behind a block, the locals that were there before it
-abbrev pub outside : Locals → Executed Locals → Executed Locals
-outside locals (GoesOn inner w) = GoesOn (drop (length inner - length locals) inner) w
-outside locals (Returns word w) = Returns word w
-outside locals (Halts ending w) = Halts ending w
+abbrev pub without : Locals → Flow Locals → Run (Flow Locals)
+without locals (GoesOn inner) = done_with (drop (length inner - length locals) inner)
+without locals (Returns word) = give (Returns word)
 
--- the test of a loop; a missing condition is 1
-abbrev pub condition : Context → Place → Locals → Option Expr → World → Evaluated
-condition c at locals None w = Gives (pos 1) w
-condition c at locals (Some e) w = eval c at locals e w
+-- a body whose locals end with it
+abbrev pub scoped : Locals → Run (Flow Locals) → Run (Flow Locals)
+scoped locals body = body ⨾ without locals
 
-abbrev pub test : Context → Place → Option Expr → Locals → World → (ℤ → Locals → World → Executed Locals) → Executed Locals
-test c at e locals w go = with_word (tested c.fuel at (condition c at locals e w)) (λ word w. go word locals w)
+-- while the condition is true, the body
+abbrev pub looped : Context → Place → Option Expr → (body : Statement Locals) → Statement Locals
+looped c at e body = loop (suc c.fuel) done_with (λ locals. tested c.fuel at (condition c at e locals)) body
 
 -- execution, statement by statement; what a block, a body or an iteration declares ends with it, and the branches of a
 -- parallel statement are read in order, each from what the one before left
 abbrev mutual
-  pub exec : Context → Place → StmtKind → Locals → World → Executed Locals
-  exec c at Empty locals w = GoesOn locals w
-  exec c at (Block' n body) locals w = outside locals (exec_row c body locals w)
-  exec c at (Local type name None) locals w = GoesOn (binding name (declared type) (pos 0) ∷ locals) w
-  exec c at (Local type name (Some e)) locals w =
-      with_word (eval c at locals e w) (λ word w. GoesOn (binding name (declared type) word ∷ locals) w)
-  exec c at (Set name e) locals w = with_word (eval c at locals e w) (λ word w. GoesOn (with_local locals name word) w)
-  exec c at (Store target value) locals w = with_word (store_into c at locals target value w) (λ _ w. GoesOn locals w)
-  exec c at (Call name args) locals w = with_word (eval_list c at locals args w (c.call at name)) (λ _ w. GoesOn locals w)
-  exec c at (If' n arms other) locals w = exec_arms c at arms (exec_held c other) locals w
-  exec c at (While' e p body) locals w = loop (turns c.fuel w) (test c at (Some e)) (λ locals w. outside locals (exec_row c body locals w)) locals w
-  exec c at (For' first e third p body) locals w =
-      outside locals (then_do (exec_held c first locals w) (λ locals w.
-      loop (turns c.fuel w) (test c at e) (λ locals w. then_do (outside locals (exec_row c body locals w)) (exec_held c third)) locals w))
-  exec c at (Print e) locals w =
-      with_word (with_word_of (eval c at locals e w) (λ number w. due c.fuel at (PrintNumber number) w)) (λ _ w. GoesOn locals w)
-  exec c at (Return None) locals w = Returns (pos 0) w
-  exec c at (Return (Some e)) locals w = with_word (eval c at locals e w) (λ word w. Returns word w)
-  exec c at (Cobegin' n blocks) locals w = branches c blocks locals None w
-  exec c at (Foreach' index low high p body) locals w =
-      with_word (eval c at locals low w) (λ low w. with_word (eval c at locals high w) (λ high w.
-      each c.fuel at low high 1 (λ i w. outside locals (exec_row c body (binding index Number i ∷ locals) w)) locals w))
+  pub exec : Context → Place → StmtKind → Statement Locals
+  exec c at Empty locals = done_with locals
+  exec c at (Block' n body) locals = scoped locals (exec_row c body locals)
+  exec c at (Declare type name None) locals = done_with (local name (declared type) (pos 0) ∷ locals)
+  exec c at (Declare type name (Some e)) locals = eval c at locals e ⨾ λ word. done_with (local name (declared type) word ∷ locals)
+  exec c at (Set name e) locals = eval c at locals e ⨾ λ word. done_with (with_what locals name word)
+  exec c at (Store into e) locals =
+      find c at locals into ⨾ target_of ⨾ λ t. eval c at locals e ⨾ λ word. store c.fuel at t word ⨾ λ _. done_with locals
+  exec c at (Call name args) locals = eval_list c at locals args ⨾ c.call at name ⨾ λ _. done_with locals
+  exec c at (If' n arms other) locals = exec_arms c at arms (exec_held c other) locals
+  exec c at (While' e p body) locals = looped c at (Some e) (λ locals. scoped locals (exec_row c body locals)) locals
+  exec c at (For' first e third p body) locals =
+      scoped locals (exec_held c first locals then_do looped c at e (λ locals. scoped locals (exec_row c body locals) then_do exec_held c third))
+  exec c at (Print e) locals = eval c at locals e ⨾ λ number. due c.fuel at (PrintNumber number) ⨾ λ _. done_with locals
+  exec c at (Return None) locals = give (Returns (pos 0))
+  exec c at (Return (Some e)) locals = eval c at locals e ⨾ λ word. give (Returns word)
+  exec c at (Cobegin' n blocks) locals = branches c blocks locals ⨾ joined locals
+  exec c at (Foreach' index low high step p body) locals =
+      eval c at locals low ⨾ λ low. eval c at locals high ⨾ λ high.
+      each c.fuel at low high (nat_abs step) (λ i. exec_row c body (local index Number i ∷ locals)) ⨾ joined locals
 
   -- one statement after another
-  pub exec_row : {n : _} → Context → Row_of-Stmt n → Locals → World → Executed Locals
-  exec_row c end_of-Stmt locals w = GoesOn locals w
-  exec_row c (more_of-Stmt at kind rest) locals w = then_do (exec c at kind locals w) (exec_row c rest)
+  pub exec_row : {n : _} → Context → Row_of-Stmt n → Statement Locals
+  exec_row c end_of-Stmt locals = done_with locals
+  exec_row c (more_of-Stmt at kind rest) locals = exec c at kind locals then_do exec_row c rest
 
   -- a statement that may be missing
-  pub exec_held : Context → Held-StmtKind-If-1 → Locals → World → Executed Locals
-  exec_held c None' locals w = GoesOn locals w
-  exec_held c (Some' p body) locals w = exec_row c body locals w
+  pub exec_held : Context → Held-StmtKind-If-1 → Statement Locals
+  exec_held c None' locals = done_with locals
+  exec_held c (Some' p body) locals = exec_row c body locals
 
   -- the arms of an `if`, and then the rest of it
-  pub exec_arms : {n : _} → Context → Place → Row_of-Arm n → (Locals → World → Executed Locals) → Locals → World → Executed Locals
-  exec_arms c at end_of-Arm otherwise locals w = otherwise locals w
-  exec_arms c at (more_of-Arm arm rest) otherwise locals w = exec_arm c at arm (exec_arms c at rest otherwise) locals w
+  pub exec_arms : {n : _} → Context → Place → Row_of-Arm n → (otherwise : Statement Locals) → Statement Locals
+  exec_arms c at end_of-Arm otherwise locals = otherwise locals
+  exec_arms c at (more_of-Arm arm rest) otherwise locals = exec_arm c at arm (exec_arms c at rest otherwise) locals
 
-  pub exec_arm : Context → Place → Arm → (Locals → World → Executed Locals) → Locals → World → Executed Locals
-  exec_arm c at (Arm' e p body) otherwise locals w =
-      with_word (eval c at locals e w) (λ word. by_truth word (λ w. outside locals (exec_row c body locals w)) (otherwise locals))
+  pub exec_arm : Context → Place → Arm → (otherwise : Statement Locals) → Statement Locals
+  exec_arm c at (Arm' e p body) otherwise locals =
+      eval c at locals e ⨾ λ word. by_truth word (scoped locals (exec_row c body locals)) (otherwise locals)
 
-  -- one branch after another, with the first trap so far
-  pub branches : {n : _} → Context → Row_of-Stmt n → Locals → Option Trap → World → Executed Locals
-  branches c end_of-Stmt locals first w = joined locals first w
-  branches c (more_of-Stmt at kind rest) locals first w = after_branch (exec c at kind locals w) first (branches c rest locals)
+  -- the blocks of a `cobegin`, in order
+  pub branches : {n : _} → Context → Row_of-Stmt n → Locals → Run (Option Trap)
+  branches c end_of-Stmt locals = give None
+  branches c (more_of-Stmt at kind rest) locals = before (branch (exec c at kind locals)) (branches c rest locals)
 
 -- the statements of a function's body
-abbrev pub exec_all : Context → List Stmt → Locals → World → Executed Locals
-exec_all c [] locals w = GoesOn locals w
-exec_all c (s ∷ body) locals w = then_do (exec c s.at s.kind locals w) (exec_all c body)
+abbrev pub exec_all : Context → List Stmt → Statement Locals
+exec_all c [] locals = done_with locals
+exec_all c (s ∷ body) locals = exec c s.at s.kind locals then_do exec_all c body
 
 -- the parameters with their arguments
 abbrev pub bound : List Param → List ℤ → Locals
 bound [] words = []
 bound (p ∷ params) [] = []
-bound (p ∷ params) (word ∷ words) = binding p.name (declared p.ctype) word ∷ bound params words
+bound (p ∷ params) (word ∷ words) = local p.name (declared p.ctype) word ∷ bound params words
 
 -- the body of a function on its arguments
-abbrev pub in_function : Context → Option Func → List ℤ → World → Evaluated
-in_function c None words w = Stops Unruled w
-in_function c (Some f) words w = returned (exec_all c f.body (bound f.params words) w)
+abbrev pub in_function : Context → Option Func → List ℤ → Run ℤ
+in_function c None words = stop Unruled
+in_function c (Some f) words = exec_all c f.body (bound f.params words) ⨾ returned
 
 -- a call where so many more functions may become active: it is counted, and then the function's body is done
-unfoldable pub called : Program → (fuel more : ℕ) → Place → List ℕ → List ℤ → World → Evaluated
-called p fuel zero at name words w = due fuel at (Enter 0) w
-called p fuel (suc more) at name words w =
-    with_word_of (due fuel at (Enter (suc more)) w) (λ _ w. in_function (record { program = p; fuel = fuel; call = called p fuel more }) (function_of p.funcs name) words w)
+unfoldable pub called : Program → (fuel more : ℕ) → Place → List ℕ → List ℤ → Run ℤ
+called p fuel zero at name words = due fuel at (Enter 0)
+called p fuel (suc more) at name words =
+    due fuel at (Enter (suc more)) ⨾ λ _. in_function (record { program = p; fuel = fuel; call = called p fuel more }) (function_of p.funcs name) words
 
 -- `main` is the first of the 1,024 functions that may be active
 abbrev pub context : Program → (fuel : ℕ) → Context
 context p fuel = record { program = p; fuel = fuel; call = called p fuel 1023 }
 
--- the input must fit into the words, or `main` traps at its entry, with nothing counted
-abbrev pub enter_on : Context → Func → (words : ℕ) → List ℤ → Outcome
-enter_on c f words input =
-    if nat_lt words (length input) then record { ending = trapped Words f.at; world = start words }
-    else ended (in_function c (Some f) (arguments input) (start_on words input))
-
--- by the parameters of `main`
-abbrev pub enter : Context → Func → List Param → (words : ℕ) → List ℤ → Outcome
-enter c f [] words input = ended (in_function c (Some f) [] (start words))
-enter c f (p ∷ params) words input = enter_on c f words input
-
+-- the function `main` on an input; where it traps at its entry, nothing is counted
 abbrev pub enter_main : Context → Option Func → (words : ℕ) → List ℤ → Outcome
 enter_main c None words input = record { ending = Unruled; world = start words }
-enter_main c (Some f) words input = enter c f f.params words input
+enter_main c (Some f) words input =
+    enter (λ w. record { ending = trapped Words f.at; world = w }) (λ arguments w. ended (in_function c (Some f) arguments w)) (length f.params) words input
 
 -- the sequential execution of a program on an input
 abbrev pub sequential : (fuel words : ℕ) → Program → (input : List ℤ) → Outcome

@@ -17,6 +17,7 @@ pub record Address : Type 0 where
   pub element : ℕ
   pub field : ℕ
 
+-- the address of these parts
 abbrev pub address : (block element field : ℕ) → Address
 address block element field = record { block = block; element = element; field = field }
 

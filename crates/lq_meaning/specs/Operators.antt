@@ -26,6 +26,7 @@ abbrev pub truth : Bool → ℤ
 truth true = pos 1
 truth false = pos 0
 
+-- whether the word is 0, which is false, or null
 abbrev pub is_zero : ℤ → Bool
 is_zero x = int_eq x (pos 0)
 
@@ -33,6 +34,7 @@ is_zero x = int_eq x (pos 0)
 abbrev pub truth_of : ℤ → ℤ
 truth_of x = truth (not (is_zero x))
 
+-- the opposite number, where it is a word
 abbrev pub negation : ℤ → Computed
 negation x = fitting (neg_ℤ x)
 
@@ -73,6 +75,7 @@ on_pointer Add p n = shifted p n
 on_pointer Sub p n = then_compute (negation n) (shifted p)
 on_pointer op p n = arithmetic op p n
 
+-- an operator, by whether its left side is a pointer
 abbrev pub binary : (pointer : Bool) → BinOp → ℤ → ℤ → Computed
 binary true op x y = on_pointer op x y
 binary false op x y = arithmetic op x y

@@ -6,6 +6,7 @@ use Rattle.std.specs.Int.{w64}
 abbrev pub IsWord : ℤ → Type 0
 IsWord z = FitsSigned w64 z
 
+-- whether a whole number is a word
 abbrev pub is_word : ℤ → Bool
 is_word z = int_le (neg_ℤ (pos (2 ^ 63))) z && int_lt z (pos (2 ^ 63))
 

@@ -48,6 +48,7 @@ allocated w (pos zero) fields = Traps Count w
 allocated w (pos (suc n)) fields = take_words w fields (suc n)
 allocated w (negsuc n) fields = Traps Count w
 
+-- a load answers the word of its address, or strays without one
 abbrev pub loaded : World → Option Address → Acted
 loaded w None = Strays w
 loaded w (Some a) = Answers (word_at w.memory a) w
@@ -57,6 +58,7 @@ abbrev pub stored : World → Option Address → ℤ → Acted
 stored w None word = Strays w
 stored w (Some a) word = Answers word (record { memory = with_word w.memory a word; left = w.left; cost = w.cost; printed = w.printed })
 
+-- a print adds its number behind those before
 abbrev pub printed : World → ℤ → Acted
 printed w number = Answers number (record { memory = w.memory; left = w.left; cost = w.cost; printed = w.printed ++ number ∷ [] })
 

@@ -3,21 +3,24 @@
 ghost use Rattle.std.specs.Prelude.{◌≡◌, ◌≢◌, ◌≤◌, ◌<◌, ◌-◌, ℕ, ℤ, List, Option};
 ghost use Rattle.lq_tree.specs.declared.expr.Expr.{Expr};
 ghost use Rattle.lq_tree.specs.declared.place.Place.{Place};
+ghost use Rattle.lq_tree.specs.declared.plain.PExpr.{PExpr};
+ghost use Rattle.lq_tree.specs.declared.plain.PKind.{PKind};
+ghost use Rattle.lq_tree.specs.declared.plain.PProgram.{PProgram};
 ghost use Rattle.lq_tree.specs.declared.program.Program.{Program};
 ghost use Rattle.lq_tree.specs.declared.stmt.StmtKind.{StmtKind};
 ghost use Rattle.lq_meaning.specs.World.{World};
 ghost use Rattle.lq_meaning.specs.Ending.{Spent};
-ghost use Rattle.lq_meaning.specs.Control.{Executed, turns, loop};
-ghost use Rattle.lq_meaning.specs.Meaning.{Context, Locals, test, exec, called, sequential};
-ghost use Rattle.lq_meaning.specs.Laws.{world_of, world_behind, Grows, CallsGrow, Counts, BodyGrows, turned, exec_with};
+ghost use Rattle.lq_meaning.specs.Meaning.{Context, Locals, exec, called, sequential};
+ghost use Rattle.lq_meaning.specs.PlainMeaning.{Slots, Context as PlainContext, exec as plain_exec, called as plain_called, sequential as plain_sequential};
+ghost use Rattle.lq_meaning.specs.PlainLaws.{CallsGrow as PlainCallsGrow, test as plain_test, exec_by as plain_exec_by};
+ghost use Rattle.lq_meaning.specs.Laws.{RunGrows, StatementGrows, CallsGrow, Counts, AnyTwoBounds, TurnByTurn, test, exec_by};
 
 /// A run never takes back a cost or a printed number, and its cost keeps within the fuel: no statement does where no
 /// call does, no call does, and no whole run does (docs/LANGUAGE.md, "Costs" and "Fuel").
 pub fn runs_only_grow()
-    ensures statement { (c : Context) → CallsGrow c → (at : Place) (kind : StmtKind) (locals : Locals) (w : World)
-        → Grows c.fuel w (world_behind (exec c at kind locals w)) }
-    ensures call { (program : Program) (fuel more : ℕ) (at : Place) (name : List ℕ) (words : List ℤ) (w : World)
-        → Grows fuel w (world_of (called program fuel more at name words w)) }
+    ensures statement { (c : Context) → CallsGrow c → (at : Place) (kind : StmtKind) → StatementGrows c.fuel (exec c at kind) }
+    ensures call { (program : Program) (fuel more : ℕ) (at : Place) (name : List ℕ) (words : List ℤ)
+        → RunGrows fuel (called program fuel more at name words) }
     ensures run { (fuel words : ℕ) (program : Program) (input : List ℤ)
         → (sequential fuel words program input).world.cost ≤ fuel }
 {}
@@ -30,17 +33,40 @@ pub fn ended_runs_keep()
 {}
 
 /// The number of turns on which a loop recurs makes no difference, once it is greater than the fuel that is left: for a
-/// body that takes nothing back and a test that is counted, as those of statements are (docs/LANGUAGE.md, "Costs").
+/// head and a body that take nothing back and a test that is counted, as those of statements are (docs/LANGUAGE.md, "Costs").
 pub fn bounds_do_not_matter()
-    ensures any_two { (fuel : ℕ) (test : Locals → World → (ℤ → Locals → World → Executed Locals) → Executed Locals)
-        (body : Locals → World → Executed Locals) → Counts fuel test → BodyGrows fuel body
-        → (n m : ℕ) (locals : Locals) (w : World) → fuel - w.cost < n → fuel - w.cost < m
-        → loop n test body locals w ≡ loop m test body locals w }
-    ensures turn_by_turn { (fuel : ℕ) (test : Locals → World → (ℤ → Locals → World → Executed Locals) → Executed Locals)
-        (body : Locals → World → Executed Locals) → Counts fuel test → BodyGrows fuel body
-        → (locals : Locals) (w : World) → loop (turns fuel w) test body locals w ≡ turned fuel test body locals w }
+    ensures any_two { AnyTwoBounds Locals }
+    ensures turn_by_turn { TurnByTurn Locals }
     ensures tests { (c : Context) → CallsGrow c → (at : Place) (condition : Option Expr) → Counts c.fuel (test c at condition) }
     ensures statements { (c : Context) → CallsGrow c → (bound : World → ℕ) → ((w : World) → c.fuel - w.cost < bound w)
         → (at : Place) (kind : StmtKind) (locals : Locals) (w : World)
-        → exec c at kind locals w ≡ exec_with bound c at kind locals w }
+        → exec c at kind locals w ≡ exec_by bound c at kind locals w }
+{}
+
+/// A run of a plain program never takes back a cost or a printed number, and its cost keeps within the fuel: no statement
+/// does where no call does, no call does, and no whole run does (docs/LANGUAGE.md, "Costs" and "Fuel").
+pub fn plain_runs_only_grow()
+    ensures statement { (c : PlainContext) → PlainCallsGrow c → (at : Place) (kind : PKind) → StatementGrows c.fuel (plain_exec c at kind) }
+    ensures call { (program : PProgram) (fuel more : ℕ) (at : Place) (function : ℕ) (words : List ℤ)
+        → RunGrows fuel (plain_called program fuel more at function words) }
+    ensures run { (fuel words : ℕ) (program : PProgram) (input : List ℤ)
+        → (plain_sequential fuel words program input).world.cost ≤ fuel }
+{}
+
+/// A run of a plain program that ended with some fuel comes to the same with more (docs/LANGUAGE.md, "Fuel").
+pub fn ended_plain_runs_keep()
+    ensures { (fuel more words : ℕ) (program : PProgram) (input : List ℤ) → fuel ≤ more
+        → (plain_sequential fuel words program input).ending ≢ Spent
+        → plain_sequential more words program input ≡ plain_sequential fuel words program input }
+{}
+
+/// The number of turns on which a loop of a plain program recurs makes no difference, once it is greater than the fuel
+/// that is left (docs/LANGUAGE.md, "Costs").
+pub fn plain_bounds_do_not_matter()
+    ensures any_two { AnyTwoBounds Slots }
+    ensures turn_by_turn { TurnByTurn Slots }
+    ensures tests { (c : PlainContext) → PlainCallsGrow c → (at : Place) (condition : PExpr) → Counts c.fuel (plain_test c at condition) }
+    ensures statements { (c : PlainContext) → PlainCallsGrow c → (bound : World → ℕ) → ((w : World) → c.fuel - w.cost < bound w)
+        → (at : Place) (kind : PKind) (slots : Slots) (w : World)
+        → plain_exec c at kind slots w ≡ plain_exec_by bound c at kind slots w }
 {}

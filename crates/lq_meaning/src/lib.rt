@@ -10,6 +10,9 @@ mod tests;
 mod words;
 
 pub use end::End;
-pub use laws::{bounds_do_not_matter, ended_runs_keep, runs_only_grow};
+pub use laws::{
+    bounds_do_not_matter, ended_plain_runs_keep, ended_runs_keep, plain_bounds_do_not_matter,
+    plain_runs_only_grow, runs_only_grow,
+};
 pub use memory::{Block, Memory};
 pub use words::Words;

@@ -4,8 +4,8 @@ use Rattle.std.specs.List.{list_any}
 use Rattle.std.proofs.lemmas.List.{drop_more, drop_all}
 use Rattle.std.proofs.lemmas.List.Folds.{list_any-append}
 use Rattle.lq_tree.specs.declared.expr.Expr.{Expr}
-use Rattle.lq_names.specs.Sites.{nodes}
-use Rattle.lq_names.proofs.NodeLaws.{nodes_all}
+use Rattle.lq_tree.specs.Walk.{nodes}
+use Rattle.lq_tree.proofs.NodeLaws.{nodes_all}
 
 pub or_assoc : (a b c : Bool) → ((a || b) || c) ≡ (a || (b || c))
 or_assoc true b c = refl

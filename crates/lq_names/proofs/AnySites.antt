@@ -1,5 +1,5 @@
 -- A test of the statements of a function, over its sites.
-use Rattle.std.proofs.Common.{◌≡◌, ℕ, ◌+◌, ◌<◌, Bool, ◌||◌, List, [], ◌∷◌, ◌++◌, length, get_or, take, Option, ap, sym, ◌∙◌}
+use Rattle.std.proofs.Common.{◌≡◌, ℕ, ℤ, ◌+◌, ◌<◌, Bool, ◌||◌, List, [], ◌∷◌, ◌++◌, length, get_or, take, Option, ap, sym, ◌∙◌}
 use Rattle.std.specs.List.{list_any, flat_map}
 use Rattle.std.proofs.lemmas.List.{append-nil, take_more}
 use Rattle.std.proofs.lemmas.List.Folds.{list_any-append}
@@ -36,10 +36,10 @@ module _ (test : StmtKind → Bool) where
   some_while s at kind e body own r is at_own at_r =
       ap (λ b. b || r) (at_own ∙ ap test is) ∙ ap (λ b. test (While e body) || b) at_r ∙ ap some (sym (ap (λ (k : StmtKind). sites s at k) is ∙ sites_while s at e body))
 
-  pub some_foreach : (s : Site) (at : Place) (kind : StmtKind) (index : List ℕ) (low high : Expr) (body : Stmt) (own r : Bool) → kind ≡ Foreach index low high body → own ≡ test kind → r ≡ some (sites_of (iteration s index) body)
+  pub some_foreach : (s : Site) (at : Place) (kind : StmtKind) (index : List ℕ) (low high : Expr) (step : ℤ) (body : Stmt) (own r : Bool) → kind ≡ Foreach index low high step body → own ≡ test kind → r ≡ some (sites_of (iteration s index) body)
       → (own || r) ≡ some (sites s at kind)
-  some_foreach s at kind index low high body own r is at_own at_r =
-      ap (λ b. b || r) (at_own ∙ ap test is) ∙ ap (λ b. test (Foreach index low high body) || b) at_r ∙ ap some (sym (ap (λ (k : StmtKind). sites s at k) is ∙ sites_foreach s at index low high body))
+  some_foreach s at kind index low high step body own r is at_own at_r =
+      ap (λ b. b || r) (at_own ∙ ap test is) ∙ ap (λ b. test (Foreach index low high step body) || b) at_r ∙ ap some (sym (ap (λ (k : StmtKind). sites s at k) is ∙ sites_foreach s at index low high step body))
 
   pub some_if : (s : Site) (at : Place) (kind : StmtKind) (arms : List Arm) (other : Option Stmt) (own r q : Bool) → kind ≡ If arms other → own ≡ test kind → r ≡ some (sites_of_bodies s arms) → q ≡ some (sites_of_other s other)
       → ((own || r) || q) ≡ some (sites s at kind)

@@ -9,18 +9,18 @@ use Rattle.std.specs.Cmp.Lexicographic.{same_text}
 use Rattle.lq_tree.specs.declared.expr.Expr.{Expr, out-Expr}
 use Rattle.lq_tree.specs.declared.expr.Expr.TheOpen as node
 use Rattle.lq_tree.specs.declared.stmt.Arm.{Arm}
-use Rattle.lq_tree.specs.declared.stmt.StmtKind.{out-StmtKind}
+use Rattle.lq_tree.specs.declared.stmt.Stmt.{Stmt}
+use Rattle.lq_tree.specs.declared.stmt.StmtKind.{StmtKind, out-StmtKind}
 use Rattle.lq_tree.specs.declared.stmt.StmtKind.TheOpen as form
 use Rattle.lq_names.specs.Rules.{Node}
 use Rattle.lq_names.specs.Faults.{Form, condition, some_value}
-use Rattle.lq_names.specs.Sites.{Placed, nodes, sites_list}
-use Rattle.lq_names.specs.Headers.{body_site}
+use Rattle.lq_tree.specs.Walk.{nodes, statements}
 use Rattle.lq_tree.specs.declared.program.Func.{Func}
 use Rattle.lq_tree.specs.declared.program.Program.{Program}
 use Rattle.lq_names.specs.declared.effects.Effect.{Effect}
 use Rattle.lq_names.specs.Scopes.{same, function_of}
 use Rattle.lq_names.specs.Seen.{is_among}
-use Rattle.lq_names.specs.Calls.{IsClosed, IsLeast, is_missing, function_does, placed_does, expression_does, node_does, form_does, nothing}
+use Rattle.lq_names.specs.Calls.{IsClosed, IsLeast, is_missing, function_does, kind_does, expression_does, node_does, form_does}
 
 -- how many functions are outside a set
 abbrev pub outside : (List ℕ → Bool) → List Func → ℕ
@@ -66,7 +66,7 @@ module _ (effect : Effect) (set other : List ℕ → Bool) (within : (name : Lis
   form_more (form.Return e) h = h
   form_more (form.Print e) h = h
   form_more (form.Cobegin b) h = h
-  form_more (form.Foreach i l u b) h = h
+  form_more (form.Foreach i l u n b) h = h
 
   value_more : (f : Form) → some_value (expression_does effect set) f ≡ true → some_value (expression_does effect other) f ≡ true
   value_more form.Empty h = h
@@ -84,16 +84,16 @@ module _ (effect : Effect) (set other : List ℕ → Bool) (within : (name : Lis
   value_more (form.Return (Some e)) h = expression_more e h
   value_more (form.Print e) h = expression_more e h
   value_more (form.Cobegin b) h = h
-  value_more (form.Foreach i l u b) h = or_more (expression_does effect set l) (expression_does effect set u) (expression_does effect other l) (expression_does effect other u) (expression_more l) (expression_more u) h
+  value_more (form.Foreach i l u n b) h = or_more (expression_does effect set l) (expression_does effect set u) (expression_does effect other l) (expression_does effect other u) (expression_more l) (expression_more u) h
 
-  placed_more : (p : Placed) → placed_does effect set p ≡ true → placed_does effect other p ≡ true
-  placed_more p h =
-      let f = out-StmtKind p.kind in
+  kind_more : (kind : StmtKind) → kind_does effect set kind ≡ true → kind_does effect other kind ≡ true
+  kind_more kind h =
+      let f = out-StmtKind kind in
       or_more (form_does effect set f) (some_value (expression_does effect set) f) (form_does effect other f) (some_value (expression_does effect other) f) (form_more f) (value_more f) h
 
-  function_more : (p : Program) (f : Option Func) → function_does p effect set f ≡ true → function_does p effect other f ≡ true
-  function_more p None h = h
-  function_more p (Some f) h = any_more (placed_does effect set) (placed_does effect other) (sites_list (body_site p nothing nothing f) f.body) placed_more h
+  function_more : (f : Option Func) → function_does effect set f ≡ true → function_does effect other f ≡ true
+  function_more None h = h
+  function_more (Some f) h = any_more (λ (s : Stmt). kind_does effect set s.kind) (λ (s : Stmt). kind_does effect other s.kind) (statements f.body) (λ s. kind_more s.kind) h
 
 same_refl : (a : List ℕ) → same a a ≡ true
 same_refl a = nat_list_eq_equiv.refl a
@@ -204,9 +204,9 @@ not_true true h = cc
 not_true false h = refl
 
 module _ (p : Program) (effect : Effect) (names : List (List ℕ)) where
-  missing : (f : Func) → find (is_missing p effect (is_among names)) p.funcs ≡ Some f → (is_among names f.name ≡ false) × (function_does p effect (is_among names) (function_of p.funcs f.name) ≡ true)
+  missing : (f : Func) → find (is_missing p effect (is_among names)) p.funcs ≡ Some f → (is_among names f.name ≡ false) × (function_does effect (is_among names) (function_of p.funcs f.name) ≡ true)
   missing f at =
-      let both = and_parts (not (is_among names f.name)) (function_does p effect (is_among names) (function_of p.funcs f.name)) (found_holds (is_missing p effect (is_among names)) p.funcs f at) in
+      let both = and_parts (not (is_among names f.name)) (function_does effect (is_among names) (function_of p.funcs f.name)) (found_holds (is_missing p effect (is_among names)) p.funcs f at) in
       (not_true (is_among names f.name) both.0, both.1)
 
   pub falls : (f : Func) (next : List (List ℕ)) → find (is_missing p effect (is_among names)) p.funcs ≡ Some f → next ≡ cond (is_among names f.name) names (names ++ (f.name ∷ [])) → outside (is_among next) p.funcs < outside (is_among names) p.funcs
@@ -218,21 +218,21 @@ module _ (p : Program) (effect : Effect) (names : List (List ℕ)) where
   stays_sound f next at added sound other closed name h = elim (grown names f.name next added name h) [
     | inl old ↦ sound other closed name old
     | inr is ↦
-        let here : other f.name ≡ true = closed f.name (function_more effect (is_among names) other (sound other closed) p (function_of p.funcs f.name) (missing f at).1) in
+        let here : other f.name ≡ true = closed f.name (function_more effect (is_among names) other (sound other closed) (function_of p.funcs f.name) (missing f at).1) in
         ap other is ∙ here
   ]
 
-  closed_at : (name : List ℕ) (o : Option Func) → function_of p.funcs name ≡ o → find (is_missing p effect (is_among names)) p.funcs ≡ None → function_does p effect (is_among names) (function_of p.funcs name) ≡ true → is_among names name ≡ true
-  closed_at name None at none h = let e : function_does p effect (is_among names) (function_of p.funcs name) ≡ false = ap (function_does p effect (is_among names)) at in cc
+  closed_at : (name : List ℕ) (o : Option Func) → function_of p.funcs name ≡ o → find (is_missing p effect (is_among names)) p.funcs ≡ None → function_does effect (is_among names) (function_of p.funcs name) ≡ true → is_among names name ≡ true
+  closed_at name None at none h = let e : function_does effect (is_among names) (function_of p.funcs name) ≡ false = ap (function_does effect (is_among names)) at in cc
   closed_at name (Some f) at none h =
       let named : f.name ≡ name = same_is f.name name (found_holds (λ (g : Func). same g.name name) p.funcs f at) in
       let absent : is_missing p effect (is_among names) f ≡ false = none_holds (is_missing p effect (is_among names)) (λ (g : Func). same g.name name) p.funcs f none at in
-      let does : function_does p effect (is_among names) (function_of p.funcs f.name) ≡ true = ap (λ (n : List ℕ). function_does p effect (is_among names) (function_of p.funcs n)) named ∙ h in
+      let does : function_does effect (is_among names) (function_of p.funcs f.name) ≡ true = ap (λ (n : List ℕ). function_does effect (is_among names) (function_of p.funcs n)) named ∙ h in
       elim (cases_Bool (is_among names name)) [
         | inl there ↦ there
         | inr isnt ↦
             let a : is_among names f.name ≡ false = ap (is_among names) named ∙ isnt in
-            let b : is_missing p effect (is_among names) f ≡ true = ap (λ x. not x && function_does p effect (is_among names) (function_of p.funcs f.name)) a ∙ does in
+            let b : is_missing p effect (is_among names) f ≡ true = ap (λ x. not x && function_does effect (is_among names) (function_of p.funcs f.name)) a ∙ does in
             cc
       ]
 

@@ -1,16 +1,14 @@
 pub mod NameSets
-pub mod NodeLaws
 pub mod SiteLaws
 pub mod LeastLaws
-pub mod FormLaws
 pub mod WalkLaws
 pub mod ValueLaws
 pub mod StatementLaws
 pub mod AnyLaws
 pub mod AnySites
+pub mod SiteWalk
 pub mod Closing
 pub mod ProgramLaws
 pub mod LeastFaults
 pub mod Telling
 pub mod CountLaws
-pub mod TypeLaws

@@ -1,5 +1,5 @@
 -- The sites of each form of statement.
-use Rattle.std.proofs.Common.{◌≡◌, ℕ, List, [], ◌∷◌, ◌++◌, Option, None, Some, ◌≤◌, length, take, true, arith, refl, ap, sym, ◌∙◌, subst, rules}
+use Rattle.std.proofs.Common.{◌≡◌, ℕ, ℤ, List, [], ◌∷◌, ◌++◌, Option, None, Some, ◌≤◌, length, take, true, arith, refl, ap, sym, ◌∙◌, subst, rules}
 use Rattle.std.proofs.lemmas.List.{append-nil, take_all, take-append-le, length-append}
 use denote.Hole.Carrier
 use Rattle.lq_tree.specs.declared.place.Place.{Place}
@@ -83,7 +83,7 @@ unrolled s at (While' e p body) = placed s at (While' e p body) ∷ sites_list s
 unrolled s at (For' first e third p body) =
     held_sites s first ++ (placed (after_held s first) at (For' first e third p body) ∷ (held_sites (after_held s first) third ++ sites_list (after_held s first) (items-the_row-Stmt _ body)))
 unrolled s at (Cobegin' n blocks) = sites_beside (in_parallel s) (items-the_row-Stmt _ blocks)
-unrolled s at (Foreach' index low high p body) = placed s at (Foreach' index low high p body) ∷ sites_list (iteration s index) (items-the_row-Stmt _ body)
+unrolled s at (Foreach' index low high step p body) = placed s at (Foreach' index low high step p body) ∷ sites_list (iteration s index) (items-the_row-Stmt _ body)
 unrolled s at kind = placed s at kind ∷ []
 
 unroll : (s : Site) (at : Place) (kind : StmtKind) → sites s at kind ≡ unrolled s at kind
@@ -106,7 +106,7 @@ unroll s at (For' first e third p body) =
     ∙ ap (λ ps. held_sites s first ++ (placed (after_held s first) at (For' first e third p body) ∷ (ps ++ sites_row (after_held s first) body))) (by_held (after_held s first) third)
     ∙ ap (λ ps. held_sites s first ++ (placed (after_held s first) at (For' first e third p body) ∷ (held_sites (after_held s first) third ++ ps))) (rows _ body (after_held s first))
 unroll s at (Cobegin' n blocks) = each _ blocks (in_parallel s)
-unroll s at (Foreach' index low high p body) = ap (λ ps. placed s at (Foreach' index low high p body) ∷ ps) (rows _ body (iteration s index))
+unroll s at (Foreach' index low high step p body) = ap (λ ps. placed s at (Foreach' index low high step p body) ∷ ps) (rows _ body (iteration s index))
 
 one_body : (s : Site) (b : Stmt) → sites_list s (b ∷ []) ≡ sites_of s b
 one_body s b = append-nil (sites_of s b)
@@ -120,10 +120,10 @@ sites_cobegin s at blocks = unroll s at (Cobegin blocks) ∙ ap (sites_beside (i
 pub sites_while : (s : Site) (at : Place) (e : Expr) (body : Stmt) → sites s at (While e body) ≡ placed s at (While e body) ∷ sites_of s body
 sites_while s at e body = unroll s at (While e body) ∙ ap (λ (bs : List Stmt). placed s at (While e body) ∷ sites_list s bs) (items_hidden-the_row-Stmt-2 body) ∙ ap (λ ps. placed s at (While e body) ∷ ps) (one_body s body)
 
-pub sites_foreach : (s : Site) (at : Place) (index : List ℕ) (low high : Expr) (body : Stmt) → sites s at (Foreach index low high body) ≡ placed s at (Foreach index low high body) ∷ sites_of (iteration s index) body
-sites_foreach s at index low high body =
-    unroll s at (Foreach index low high body) ∙ ap (λ (bs : List Stmt). placed s at (Foreach index low high body) ∷ sites_list (iteration s index) bs) (items_hidden-the_row-Stmt-2 body)
-    ∙ ap (λ ps. placed s at (Foreach index low high body) ∷ ps) (one_body (iteration s index) body)
+pub sites_foreach : (s : Site) (at : Place) (index : List ℕ) (low high : Expr) (step : ℤ) (body : Stmt) → sites s at (Foreach index low high step body) ≡ placed s at (Foreach index low high step body) ∷ sites_of (iteration s index) body
+sites_foreach s at index low high step body =
+    unroll s at (Foreach index low high step body) ∙ ap (λ (bs : List Stmt). placed s at (Foreach index low high step body) ∷ sites_list (iteration s index) bs) (items_hidden-the_row-Stmt-2 body)
+    ∙ ap (λ ps. placed s at (Foreach index low high step body) ∷ ps) (one_body (iteration s index) body)
 
 -- what may be missing, in the layer of a statement
 some_held : (s : Site) (b : Stmt) (bs : List Stmt) → bs ≡ b ∷ [] → sites_list s bs ≡ sites_of s b
@@ -173,7 +173,7 @@ sites_for s at (Some a) e (Some c) body =
 by_layer : (s : Site) (at : Place) (form : layer.StmtKind-F StmtKind Arm Stmt)
     → ((b : List Stmt) → roll-StmtKind form ≡ Block b → ⊥) → ((a : List Arm) (o : Option Stmt) → roll-StmtKind form ≡ If a o → ⊥) → ((e : Expr) (b : Stmt) → roll-StmtKind form ≡ While e b → ⊥)
     → ((a : Option Stmt) (e : Option Expr) (t : Option Stmt) (b : Stmt) → roll-StmtKind form ≡ For a e t b → ⊥) → ((b : List Stmt) → roll-StmtKind form ≡ Cobegin b → ⊥)
-    → ((i : List ℕ) (l h : Expr) (b : Stmt) → roll-StmtKind form ≡ Foreach i l h b → ⊥)
+    → ((i : List ℕ) (l h : Expr) (n : ℤ) (b : Stmt) → roll-StmtKind form ≡ Foreach i l h n b → ⊥)
     → sites s at (roll-StmtKind form) ≡ placed s at (roll-StmtKind form) ∷ []
 unfolding sites
 by_layer s at layer.Empty nb ni nw nf nc ne = subst (λ (k : StmtKind). sites s at k ≡ placed s at k ∷ []) (sym rolls-Empty) refl
@@ -188,7 +188,7 @@ by_layer s at (layer.For a e t b) nb ni nw nf nc ne = absurd (nf a e t b (rolls-
 by_layer s at (layer.Return e) nb ni nw nf nc ne = subst (λ (k : StmtKind). sites s at k ≡ placed s at k ∷ []) (sym (rolls-Return e)) refl
 by_layer s at (layer.Print e) nb ni nw nf nc ne = subst (λ (k : StmtKind). sites s at k ≡ placed s at k ∷ []) (sym (rolls-Print e)) refl
 by_layer s at (layer.Cobegin b) nb ni nw nf nc ne = absurd (nc b (rolls-Cobegin b))
-by_layer s at (layer.Foreach i l h b) nb ni nw nf nc ne = absurd (ne i l h b (rolls-Foreach i l h b))
+by_layer s at (layer.Foreach i l h n b) nb ni nw nf nc ne = absurd (ne i l h n b (rolls-Foreach i l h n b))
 
 roll_out_kind : (kind : StmtKind) → roll-StmtKind (out-StmtKind kind) ≡ kind
 roll_out_kind kind = search (rules, kind_lemmas)
@@ -196,12 +196,12 @@ roll_out_kind kind = search (rules, kind_lemmas)
 pub sites_alone : (s : Site) (at : Place) (kind : StmtKind)
     → ((b : List Stmt) → kind ≡ Block b → ⊥) → ((a : List Arm) (o : Option Stmt) → kind ≡ If a o → ⊥) → ((e : Expr) (b : Stmt) → kind ≡ While e b → ⊥)
     → ((a : Option Stmt) (e : Option Expr) (t : Option Stmt) (b : Stmt) → kind ≡ For a e t b → ⊥) → ((b : List Stmt) → kind ≡ Cobegin b → ⊥)
-    → ((i : List ℕ) (l h : Expr) (b : Stmt) → kind ≡ Foreach i l h b → ⊥)
+    → ((i : List ℕ) (l h : Expr) (n : ℤ) (b : Stmt) → kind ≡ Foreach i l h n b → ⊥)
     → sites s at kind ≡ placed s at kind ∷ []
 sites_alone s at kind nb ni nw nf nc ne =
     let is = roll_out_kind kind in
     subst (λ (k : StmtKind). sites s at k ≡ placed s at k ∷ []) is
-    (by_layer s at (out-StmtKind kind) (λ b e. nb b (sym is ∙ e)) (λ a o e. ni a o (sym is ∙ e)) (λ x b e. nw x b (sym is ∙ e)) (λ a x t b e. nf a x t b (sym is ∙ e)) (λ b e. nc b (sym is ∙ e)) (λ i l h b e. ne i l h b (sym is ∙ e)))
+    (by_layer s at (out-StmtKind kind) (λ b e. nb b (sym is ∙ e)) (λ a o e. ni a o (sym is ∙ e)) (λ x b e. nw x b (sym is ∙ e)) (λ a x t b e. nf a x t b (sym is ∙ e)) (λ b e. nc b (sym is ∙ e)) (λ i l h n b e. ne i l h n b (sym is ∙ e)))
 
 pub sites_local : (s : Site) (at : Place) (t : CType) (x : List ℕ) (e : Option Expr) → sites s at (Local t x e) ≡ placed s at (Local t x e) ∷ []
 unfolding sites
@@ -221,7 +221,7 @@ site_after f scope (If' n a o) = refl
 site_after f scope (While' e p b) = refl
 site_after f scope (For' a e t p b) = refl
 site_after f scope (Cobegin' n b) = refl
-site_after f scope (Foreach' i l h p b) = refl
+site_after f scope (Foreach' i l h n p b) = refl
 
 -- what was in scope before a statement is there behind it
 pub kept_after : (s : Site) (kind : StmtKind) (n : ℕ) → n ≤ length s.scope → take n (after s kind).scope ≡ take n s.scope
@@ -237,7 +237,7 @@ kept_after s (If' m a o) n le = refl
 kept_after s (While' e p b) n le = refl
 kept_after s (For' a e t p b) n le = refl
 kept_after s (Cobegin' m b) n le = refl
-kept_after s (Foreach' i l h p b) n le = refl
+kept_after s (Foreach' i l h step p b) n le = refl
 
 pub grows_after : (s : Site) (kind : StmtKind) → length s.scope ≤ length (after s kind).scope
 grows_after s Empty = omega arith
@@ -252,7 +252,7 @@ grows_after s (If' m a o) = omega arith
 grows_after s (While' e p b) = omega arith
 grows_after s (For' a e t p b) = omega arith
 grows_after s (Cobegin' m b) = omega arith
-grows_after s (Foreach' i l h p b) = omega arith
+grows_after s (Foreach' i l h n p b) = omega arith
 
 pub local_alone : (s : Site) (at : Place) (kind : StmtKind) (t : CType) (x : List ℕ) (e : Option Expr) → kind ≡ Local t x e → sites s at kind ≡ placed s at kind ∷ []
 local_alone s at kind t x e is = subst (λ (k : StmtKind). sites s at k ≡ placed s at k ∷ []) (sym is) (sites_local s at t x e)

@@ -1,5 +1,5 @@
 -- The least fault over statements, from that of their parts.
-use Rattle.std.proofs.Common.{◌≡◌, ℕ, ◌+◌, ◌<◌, ◌≤◌, List, [], ◌∷◌, ◌++◌, length, get_or, drop, Option, ap, sym, ◌∙◌}
+use Rattle.std.proofs.Common.{◌≡◌, ℕ, ℤ, ◌+◌, ◌<◌, ◌≤◌, List, [], ◌∷◌, ◌++◌, length, get_or, drop, Option, ap, sym, ◌∙◌}
 use Rattle.std.specs.List.{flat_map}
 use Rattle.std.proofs.lemmas.List.{drop_more, drop_all}
 use Rattle.lq_tree.specs.declared.place.Place.{Place}
@@ -53,10 +53,10 @@ module _ (s : Site) (at : Place) (found : Option Fault) (kind : StmtKind) where
       at_last ∙ sym (ap (λ (k : StmtKind). gathered found (sites s at k)) is ∙ ap (gathered found) (sites_while s at e body)
       ∙ ap (λ (k : StmtKind). gathered found (placed s at k ∷ sites_of s body)) (sym is) ∙ own first (sites_of s body) at_first)
 
-  pub in_foreach : (index : List ℕ) (low high : Expr) (body : Stmt) (first last : Option Fault) → kind ≡ Foreach index low high body → first ≡ noted at found (statement_rules s (out-StmtKind kind))
+  pub in_foreach : (index : List ℕ) (low high : Expr) (step : ℤ) (body : Stmt) (first last : Option Fault) → kind ≡ Foreach index low high step body → first ≡ noted at found (statement_rules s (out-StmtKind kind))
       → last ≡ gathered first (sites_of (iteration s index) body) → last ≡ gathered found (sites s at kind)
-  in_foreach index low high body first last is at_first at_last =
-      at_last ∙ sym (ap (λ (k : StmtKind). gathered found (sites s at k)) is ∙ ap (gathered found) (sites_foreach s at index low high body)
+  in_foreach index low high step body first last is at_first at_last =
+      at_last ∙ sym (ap (λ (k : StmtKind). gathered found (sites s at k)) is ∙ ap (gathered found) (sites_foreach s at index low high step body)
       ∙ ap (λ (k : StmtKind). gathered found (placed s at k ∷ sites_of (iteration s index) body)) (sym is) ∙ own first (sites_of (iteration s index) body) at_first)
 
   pub in_if : (arms : List Arm) (other : Option Stmt) (first next last : Option Fault) → kind ≡ If arms other → first ≡ noted at found (statement_rules s (out-StmtKind kind))

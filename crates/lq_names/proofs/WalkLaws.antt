@@ -7,9 +7,9 @@ use Rattle.lq_tree.specs.declared.place.Place.{Place}
 use Rattle.lq_tree.specs.declared.expr.Expr.{Expr, out-Expr}
 use Rattle.lq_names.specs.declared.fault.Fault.{Fault}
 use Rattle.lq_names.specs.Scopes.{Site}
-use Rattle.lq_names.specs.Sites.{nodes}
+use Rattle.lq_tree.specs.Walk.{nodes}
 use Rattle.lq_names.specs.Faults.{expression_rules, node_rules, noted}
-use Rattle.lq_names.proofs.NodeLaws.{nodes_all}
+use Rattle.lq_tree.proofs.NodeLaws.{nodes_all}
 use Rattle.lq_names.proofs.LeastLaws.{noted_append, noted_nothing}
 
 module _ (s : Site) (at : Place) (found : Option Fault) where

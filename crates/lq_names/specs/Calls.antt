@@ -3,7 +3,8 @@ use Rattle.std.specs.Prelude.{ℕ, Bool, true, false, not, ◌&&◌, ◌||◌, L
 use Rattle.std.specs.List.{list_any}
 use Rattle.lq_tree.specs.declared.expr.Expr.{Expr, out-Expr}
 use Rattle.lq_tree.specs.declared.expr.Expr.TheOpen as node
-use Rattle.lq_tree.specs.declared.stmt.StmtKind.{out-StmtKind}
+use Rattle.lq_tree.specs.declared.stmt.Stmt.{Stmt}
+use Rattle.lq_tree.specs.declared.stmt.StmtKind.{StmtKind, out-StmtKind}
 use Rattle.lq_tree.specs.declared.stmt.StmtKind.TheOpen as form
 use Rattle.lq_tree.specs.declared.program.Program.{Program}
 use Rattle.lq_tree.specs.declared.program.Func.{Func}
@@ -11,14 +12,15 @@ use Rattle.lq_names.specs.declared.effects.Effect.{Effect}
 use Rattle.lq_names.specs.declared.effects.Effect.TheVariants.{Prints, Allocates}
 use Rattle.lq_names.specs.Scopes.{function_of}
 use Rattle.lq_names.specs.Rules.{Node}
-use Rattle.lq_names.specs.Faults.{Form, some_value}
-use Rattle.lq_names.specs.Sites.{Placed, nodes, sites_list}
-use Rattle.lq_names.specs.Headers.{body_site}
+use Rattle.lq_tree.specs.Walk.{nodes, statements, Form, some_value}
+use Rattle.lq_names.specs.Sites.{Placed}
 
+-- it is printing
 abbrev pub is_print : Effect → Bool
 is_print Prints = true
 is_print Allocates = false
 
+-- it is allocating
 abbrev pub is_calloc : Effect → Bool
 is_calloc Prints = false
 is_calloc Allocates = true
@@ -35,6 +37,7 @@ form_does effect set (form.Print e) = is_print effect
 form_does effect set (form.Call f args) = set f
 form_does effect set _ = false
 
+-- an expression has such a node
 abbrev pub expression_does : Effect → (List ℕ → Bool) → Expr → Bool
 expression_does effect set e = list_any (λ (n : Expr). node_does effect set (out-Expr n)) (nodes e)
 
@@ -42,25 +45,26 @@ expression_does effect set e = list_any (λ (n : Expr). node_does effect set (ou
 abbrev pub statement_does : Effect → (List ℕ → Bool) → Form → Bool
 statement_does effect set f = form_does effect set f || some_value (expression_does effect set) f
 
-abbrev pub placed_does : Effect → (List ℕ → Bool) → Placed → Bool
-placed_does effect set p = statement_does effect set (out-StmtKind p.kind)
+-- what stands as a statement, with its expressions
+abbrev pub kind_does : Effect → (List ℕ → Bool) → StmtKind → Bool
+kind_does effect set kind = statement_does effect set (out-StmtKind kind)
 
--- no function
-abbrev pub nothing : List ℕ → Bool
-nothing name = false
+-- a statement at its site
+abbrev pub placed_does : Effect → (List ℕ → Bool) → Placed → Bool
+placed_does effect set p = kind_does effect set p.kind
 
 -- a statement of the function, at any depth
-abbrev pub function_does : Program → Effect → (List ℕ → Bool) → Option Func → Bool
-function_does p effect set None = false
-function_does p effect set (Some f) = list_any (placed_does effect set) (sites_list (body_site p nothing nothing f) f.body)
+abbrev pub function_does : Effect → (List ℕ → Bool) → Option Func → Bool
+function_does effect set None = false
+function_does effect set (Some f) = list_any (λ (s : Stmt). kind_does effect set s.kind) (statements f.body)
 
 -- the function belongs to the set and isn't in it
 abbrev pub is_missing : Program → Effect → (List ℕ → Bool) → Func → Bool
-is_missing p effect set f = not (set f.name) && function_does p effect set (function_of p.funcs f.name)
+is_missing p effect set f = not (set f.name) && function_does effect set (function_of p.funcs f.name)
 
 -- the set is closed under calls: it has each function that prints or allocates itself, or calls one of the set
 abbrev pub IsClosed : Program → Effect → (List ℕ → Bool) → Type 0
-IsClosed p effect set = (name : List ℕ) → IsTrue (function_does p effect set (function_of p.funcs name)) → IsTrue (set name)
+IsClosed p effect set = (name : List ℕ) → IsTrue (function_does effect set (function_of p.funcs name)) → IsTrue (set name)
 
 -- the functions that may print, or may allocate: the least set that is closed under calls
 pub record IsLeast (p : Program) (effect : Effect) (set : List ℕ → Bool) : Type 0 where

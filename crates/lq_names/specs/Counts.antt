@@ -1,6 +1,9 @@
 -- What is counted in a program (docs/COMMANDS.md, "Limits").
 use Rattle.std.specs.Prelude.{ℕ, ◌+◌, nat_lt, if◌then◌else◌, max, min, List, [], ◌∷◌, length, map, fold, Option, None, Some, Result, Ok, Err}
 use Rattle.lq_tree.specs.declared.limit.Limit.{Limit}
+use Rattle.lq_tree.specs.declared.limit.Quantity.{Quantity}
+use Rattle.lq_tree.specs.declared.limit.Quantity.TheVariants.{Functions, Structs, Fields, Locals, Branches, Arms}
+use Rattle.lq_tree.specs.Limit.{row_of}
 use Rattle.lq_tree.specs.declared.stmt.Stmt.{Stmt}
 use Rattle.lq_tree.specs.declared.stmt.StmtKind.{StmtKind}
 use Rattle.lq_tree.specs.declared.stmt.StmtKind.TheOpen.{StmtKind-F, Block, Local, If, While, For, Cobegin, Foreach}
@@ -39,12 +42,15 @@ one_local = record { declared = 1; locals = 1; branches = 0; arms = 0 }
 abbrev pub in_row : List Sizes → Sizes
 in_row parts = fold behind no_sizes parts
 
+-- parts of which the second ends with its locals
 abbrev pub apart : Sizes → Sizes → Sizes
 apart a b = behind a (closed b)
 
+-- bodies beside each other
 abbrev pub beside : List Sizes → Sizes
 beside parts = fold apart no_sizes parts
 
+-- of a part that may be missing
 abbrev pub or_nothing : Option Sizes → Sizes
 or_nothing None = no_sizes
 or_nothing (Some a) = a
@@ -53,6 +59,7 @@ or_nothing (Some a) = a
 abbrev pub branches_of : ℕ → Sizes
 branches_of n = record { declared = 0; locals = 0; branches = n; arms = 0 }
 
+-- so many conditions
 abbrev pub arms_of : ℕ → Sizes
 arms_of n = record { declared = 0; locals = 0; branches = 0; arms = n }
 
@@ -64,12 +71,14 @@ sizes_step (If arms other) = behind (arms_of (length arms)) (behind (beside arms
 sizes_step (While e body) = closed body
 sizes_step (For first e third body) = closed (behind (or_nothing first) (behind (closed (or_nothing third)) (closed body)))
 sizes_step (Cobegin blocks) = behind (branches_of (length blocks)) (beside blocks)
-sizes_step (Foreach index low high body) = closed (behind one_local body)
+sizes_step (Foreach index low high step body) = closed (behind one_local body)
 sizes_step _ = no_sizes
 
+-- the sizes of what a statement is
 abbrev pub sizes_of : StmtKind → Sizes
 sizes_of = fold-StmtKind Sizes Sizes Sizes sizes_step (λ arm. arm.body) (λ stmt. stmt.kind)
 
+-- the sizes of a statement
 abbrev pub sizes_of_stmt : Stmt → Sizes
 sizes_of_stmt stmt = sizes_of stmt.kind
 
@@ -77,6 +86,7 @@ sizes_of_stmt stmt = sizes_of stmt.kind
 abbrev pub parameters_of : ℕ → Sizes
 parameters_of n = record { declared = n; locals = n; branches = 0; arms = 0 }
 
+-- a function: its parameters, and its body behind them
 abbrev pub function_sizes : Func → Sizes
 function_sizes f = behind (parameters_of (length f.params)) (in_row (map sizes_of_stmt f.body))
 
@@ -98,15 +108,16 @@ pub record Count : Type 0 where
   pub found : ℕ
   pub allowed : ℕ
 
-abbrev pub count : (which found allowed : ℕ) → Count
-count which found allowed = record { which = which; found = found; allowed = allowed }
+-- so much of a quantity, by the table of limits
+abbrev pub count : Quantity → (found : ℕ) → Count
+count quantity found = record { which = (row_of quantity).number; found = found; allowed = (row_of quantity).allowed }
 
 -- all that is counted, in the order of the tests
 abbrev pub counts : Program → List Count
 counts p =
     let sizes = program_sizes p in
-    count 8 (length p.funcs) 256 ∷ count 11 (length p.structs) 64 ∷ count 12 (most_fields p.structs) 16
-    ∷ count 13 sizes.locals 32 ∷ count 14 sizes.branches 16 ∷ count 18 sizes.arms 64 ∷ []
+    count Functions (length p.funcs) ∷ count Structs (length p.structs) ∷ count Fields (most_fields p.structs)
+    ∷ count Locals sizes.locals ∷ count Branches sizes.branches ∷ count Arms sizes.arms ∷ []
 
 -- the first that passes its limit
 abbrev pub first_passed : List Count → Option Limit

@@ -4,50 +4,16 @@ use Rattle.std.specs.Option.{is_some}
 use Rattle.std.specs.List.{list_any, flat_map}
 use Rattle.lq_tree.specs.declared.place.Place.{Place}
 use Rattle.lq_tree.specs.declared.expr.Expr.{Expr, out-Expr}
-use Rattle.lq_tree.specs.declared.stmt.Arm.{Arm, out-Arm}
-use Rattle.lq_tree.specs.declared.stmt.Stmt.{Stmt}
-use Rattle.lq_tree.specs.declared.stmt.StmtKind.{StmtKind, out-StmtKind}
-use Rattle.lq_tree.specs.declared.stmt.StmtKind.TheOpen.{StmtKind-F, Local, Set, Store, Call, If, While, For, Return, Print, Foreach}
+use Rattle.lq_tree.specs.declared.stmt.Arm.{Arm}
+use Rattle.lq_tree.specs.Step.{is_step}
+use Rattle.lq_tree.specs.declared.stmt.StmtKind.{out-StmtKind}
+use Rattle.lq_tree.specs.declared.stmt.StmtKind.TheOpen.{Local, Set, Store, Call, If, While, For, Return, Print, Foreach}
 use Rattle.lq_names.specs.declared.fault.Fault.{Fault}
 use Rattle.lq_names.specs.Scopes.{Site, declared, type_in, is_in_scope, function_of, in_parallel}
 use Rattle.lq_names.specs.Types.{type_of, is_pointer, is_known, result_of}
 use Rattle.lq_names.specs.Rules.{Node, is_main, misfits, arguments_misfit, miscounts, gives_nothing, gives_struct, is_whole, n1, n3, n5, n6, n7, n8, n9}
-use Rattle.lq_names.specs.Sites.{Placed, nodes}
-
--- a statement, with its parts
-abbrev pub Form : Type 0
-Form = StmtKind-F StmtKind Arm Stmt
-
-abbrev pub condition : Arm → Expr
-condition arm = (out-Arm arm).cond
-
--- the expressions that stand in a statement itself: each is used as a value
-abbrev pub values : Form → List Expr
-values (Local type name (Some e)) = e ∷ []
-values (Set name e) = e ∷ []
-values (Store target e) = target ∷ e ∷ []
-values (Call f args) = args
-values (If arms other) = map condition arms
-values (While e body) = e ∷ []
-values (For first (Some e) third body) = e ∷ []
-values (Return (Some e)) = e ∷ []
-values (Print e) = e ∷ []
-values (Foreach index low high body) = low ∷ high ∷ []
-values _ = []
-
--- one of them passes a test
-abbrev pub some_value : (Expr → Bool) → Form → Bool
-some_value test (Local type name (Some e)) = test e
-some_value test (Set name e) = test e
-some_value test (Store target e) = test target || test e
-some_value test (Call f args) = list_any test args
-some_value test (If arms other) = list_any (λ (arm : Arm). test (condition arm)) arms
-some_value test (While e body) = test e
-some_value test (For first (Some e) third body) = test e
-some_value test (Return (Some e)) = test e
-some_value test (Print e) = test e
-some_value test (Foreach index low high body) = test low || test high
-some_value test _ = false
+use Rattle.lq_names.specs.Sites.{Placed}
+pub use Rattle.lq_tree.specs.Walk.{nodes, Form, condition, values, some_value}
 
 -- a pointer stands where an int is wanted
 abbrev pub is_no_number : Site → Expr → Bool
@@ -70,7 +36,7 @@ s3 s _ = false
 -- a local or an index is declared where one of its name is in scope
 abbrev pub s4 : Site → Form → Bool
 s4 s (Local type name initial) = is_in_scope s.scope name
-s4 s (Foreach index low high body) = is_in_scope s.scope index
+s4 s (Foreach index low high step body) = is_in_scope s.scope index
 s4 s _ = false
 
 -- what is given can't be what is wanted; conditions, what is printed and the ends of a `foreach` are ints
@@ -84,7 +50,7 @@ s5 s (While e body) = is_no_number s e
 s5 s (For first (Some e) third body) = is_no_number s e
 s5 s (Return (Some e)) = misfits s (result_of s.returns) e
 s5 s (Print e) = is_no_number s e
-s5 s (Foreach index low high body) = is_no_number s low || is_no_number s high
+s5 s (Foreach index low high step body) = is_no_number s low || is_no_number s high
 s5 s _ = false
 
 -- a wrong number of arguments, or a void call as a value
@@ -92,6 +58,7 @@ abbrev pub miscalls : Site → Form → Bool
 miscalls s (Call f args) = miscounts (function_of s.program.funcs f) (length args)
 miscalls s _ = false
 
+-- the same, or a void call among its expressions
 abbrev pub s6 : Site → Form → Bool
 s6 s form = miscalls s form || some_value (gives_nothing s) form
 
@@ -101,6 +68,7 @@ names_struct s (Local type name initial) = is_whole (declared type)
 names_struct s (Set name e) = is_whole (type_in s.scope name)
 names_struct s _ = false
 
+-- the same, or a struct among its expressions
 abbrev pub s7 : Site → Form → Bool
 s7 s form = names_struct s form || some_value (gives_struct s) form
 
@@ -131,6 +99,11 @@ s12 s (Return (Some e)) = not (is_some s.returns)
 s12 s (Return None) = is_some s.returns
 s12 s _ = false
 
+-- the step of a `foreach` is none
+abbrev pub s13 : Form → Bool
+s13 (Foreach index low high step body) = not (is_step step)
+s13 _ = false
+
 -- ---- all that is broken
 
 -- the numbers of the rules that are broken
@@ -148,21 +121,24 @@ expression_rules s e = flat_map (λ (n : Expr). node_rules s (out-Expr n)) (node
 
 -- the head of a `foreach` is part of the parallel statement
 abbrev pub head_site : Site → Form → Site
-head_site s (Foreach index low high body) = in_parallel s
+head_site s (Foreach index low high step body) = in_parallel s
 head_site s _ = s
 
 -- at a statement itself
 abbrev pub own_rules : Site → Form → List ℕ
 own_rules s form = broken ((s1 form, 1) ∷ (s3 s form, 3) ∷ (s4 s form, 4) ∷ (s5 s form, 5) ∷ (s6 s form, 6) ∷ (s7 s form, 7)
-    ∷ (s8 s form, 8) ∷ (s9 s form, 9) ∷ (s10 s form, 10) ∷ (s11 s form, 11) ∷ (s12 s form, 12) ∷ [])
+    ∷ (s8 s form, 8) ∷ (s9 s form, 9) ∷ (s10 s form, 10) ∷ (s11 s form, 11) ∷ (s12 s form, 12)
+    ∷ (s13 form, 13) ∷ [])
 
 -- at a statement, with the expressions that stand in it; all have its place
 abbrev pub statement_rules : Site → Form → List ℕ
 statement_rules s form = own_rules s form ++ flat_map (expression_rules (head_site s form)) (values form)
 
+-- a rule that is broken at a place
 abbrev pub fault_at : Place → ℕ → Fault
 fault_at at rule = record { rule = rule; at = at }
 
+-- the faults at a statement, at its place
 unfoldable pub placed_faults : Placed → List Fault
 placed_faults p = map (fault_at p.at) (statement_rules p.site (out-StmtKind p.kind))
 

@@ -18,10 +18,12 @@ use Rattle.lq_names.specs.Seen.{is_among}
 
 -- ---- N1: `main` is missing, or has none of its forms (docs/LANGUAGE.md, "Entry of main")
 
+-- it is an int
 abbrev pub is_int : Ty → Bool
 is_int Number = true
 is_int _ = false
 
+-- it is an `int *`
 abbrev pub is_int_pointer : Ty → Bool
 is_int_pointer (Pointer Int zero) = true
 is_int_pointer _ = false
@@ -33,10 +35,12 @@ takes_input (a ∷ []) = false
 takes_input (a ∷ b ∷ []) = is_int_pointer (declared a.ctype) && is_int (declared b.ctype)
 takes_input (a ∷ b ∷ c ∷ rest) = false
 
+-- a function gives an int
 abbrev pub gives_int : Option CType → Bool
 gives_int None = false
 gives_int (Some type) = is_int (declared type)
 
+-- there is a `main`, of one of its forms
 abbrev pub is_entry : Option Func → Bool
 is_entry None = false
 is_entry (Some f) = gives_int f.result && takes_input f.params
@@ -45,6 +49,7 @@ is_entry (Some f) = gives_int f.result && takes_input f.params
 abbrev pub start : Place
 start = record { line = 1; col = 1 }
 
+-- what is broken at `main`
 abbrev pub entry_rules : Program → List ℕ
 entry_rules p = broken ((not (is_entry (function_of p.funcs (codes "main"))), 1) ∷ [])
 
@@ -80,12 +85,14 @@ head_rules p earlier f = broken ((is_among earlier f.name, 2) ∷ (some_type (is
 abbrev pub with_name : List (List ℕ) → List ℕ → List (List ℕ)
 with_name names name = if is_among names name then names else names ++ (name ∷ [])
 
+-- at each struct, where the earlier ones have these names
 abbrev pub struct_faults : Program → (earlier : List (List ℕ)) → List StructDef → List Fault
 struct_faults p earlier [] = []
 struct_faults p earlier (d ∷ rest) = map (fault_at d.at) (struct_rules p earlier d) ++ struct_faults p (with_name earlier d.name) rest
 
 -- ---- a function, its body included
 
+-- a parameter as a variable
 abbrev pub parameter : Param → Variable
 parameter q = record { name = q.name; type = declared q.ctype }
 
@@ -101,6 +108,7 @@ body_site p prints allocates f = record {
   parallel = false;
 }
 
+-- at each function, where the earlier ones have these names
 abbrev pub function_faults : Program → (prints allocates : List ℕ → Bool) → (earlier : List (List ℕ)) → List Func → List Fault
 function_faults p prints allocates earlier [] = []
 function_faults p prints allocates earlier (f ∷ rest) =

@@ -4,8 +4,6 @@ use Rattle.std.specs.Prelude.{ℕ, pos, ◌==◌, Bool, true, false, not, ◌&&�
 use Rattle.std.specs.Ordering.{int_eq}
 use Rattle.std.specs.Option.{is_some}
 use Rattle.std.specs.List.{list_any, zip}
-use Rattle.lq_tree.specs.declared.expr.Base.{Base}
-use Rattle.lq_tree.specs.declared.expr.Base.TheVariants.{Int, Struct}
 use Rattle.lq_tree.specs.declared.expr.BinOp.{BinOp}
 use Rattle.lq_tree.specs.declared.expr.BinOp.TheVariants.{Add, Sub, Eq, Ne}
 use Rattle.lq_tree.specs.declared.expr.Expr.{Expr, out-Expr}
@@ -26,6 +24,7 @@ abbrev pub is_literal_zero : Node → Bool
 is_literal_zero (Num n) = int_eq n (pos 0)
 is_literal_zero _ = false
 
+-- the expression is the literal 0
 abbrev pub is_zero : Expr → Bool
 is_zero e = is_literal_zero (out-Expr e)
 
@@ -36,6 +35,7 @@ disagrees (Pointer base stars) Number literal = not literal
 disagrees (Pointer base stars) (Pointer other more) literal = not (same_base base other && stars == more)
 disagrees _ _ literal = false
 
+-- the expression can't be what is wanted
 abbrev pub misfits : Site → (wanted : Ty) → Expr → Bool
 misfits s wanted e = disagrees wanted (type_of s e) (is_zero e)
 
@@ -43,6 +43,7 @@ misfits s wanted e = disagrees wanted (type_of s e) (is_zero e)
 abbrev pub argument_misfits : Site → List Param → List Expr → Bool
 argument_misfits s params args = list_any (λ (pair : Param × Expr). misfits s (declared pair.0.ctype) pair.1) (zip params args)
 
+-- the same, of a function that may be unknown
 abbrev pub arguments_misfit : Site → Option Func → List Expr → Bool
 arguments_misfit s None args = false
 arguments_misfit s (Some f) args = argument_misfits s f.params args
@@ -54,19 +55,23 @@ miscounts (Some f) count = not (length f.params == count)
 
 -- ---- N1: `main` is called
 
+-- the name is `main`
 abbrev pub is_main : List ℕ → Bool
 is_main name = same name (codes "main")
 
+-- a call of `main`
 abbrev pub n1 : Node → Bool
 n1 (Call f args) = is_main f
 n1 _ = false
 
 -- ---- N3: a variable, function, struct or field is unknown
 
+-- a struct element has no such field
 abbrev pub lacks_field : Program → Ty → List ℕ → Bool
 lacks_field p (Element struct) field = not (is_some (field_of p struct field))
 lacks_field p _ field = false
 
+-- at a node
 abbrev pub n3 : Site → Node → Bool
 n3 s (Var name) = not (is_in_scope s.scope name)
 n3 s (Arrow a field) = lacks_field s.program (element_of (type_of s a)) field
@@ -82,6 +87,7 @@ abbrev pub are_compared : Ty → Bool → Ty → Bool → Bool
 are_compared left left_zero right right_zero =
     (not (is_pointer left) && not (is_pointer right)) || (not (is_number left) && right_zero) || (left_zero && not (is_number right))
 
+-- an operator on operands of these types, of which some are the literal 0
 abbrev pub operator_misfits : BinOp → Ty → Bool → Ty → Bool → Bool
 operator_misfits Add left left_zero right right_zero = is_pointer right
 operator_misfits Sub left left_zero right right_zero = is_pointer right
@@ -93,6 +99,7 @@ operator_misfits _ left left_zero right right_zero = is_pointer left || is_point
 abbrev pub has_no_fields : Ty → Bool
 has_no_fields type = is_number type || is_pointer type
 
+-- at a node
 abbrev pub n5 : Site → Node → Bool
 n5 s (Neg a) = is_pointer (type_of s a)
 n5 s (Not a) = is_pointer (type_of s a)
@@ -107,10 +114,12 @@ n5 s _ = false
 
 -- ---- N6: a wrong number of arguments, or a void call as a value
 
+-- it is what a void function gives
 abbrev pub is_nothing : Ty → Bool
 is_nothing Nothing = true
 is_nothing _ = false
 
+-- the expression is a void call
 abbrev pub gives_nothing : Site → Expr → Bool
 gives_nothing s e = is_nothing (type_of s e)
 
@@ -130,15 +139,18 @@ n6 s (Calloc a type) = gives_nothing s a
 
 -- ---- N7: a struct as a value
 
+-- it is a struct that is no element
 abbrev pub is_whole : Ty → Bool
 is_whole (Whole name) = true
 is_whole _ = false
 
+-- it is a struct
 abbrev pub is_struct : Ty → Bool
 is_struct (Element name) = true
 is_struct (Whole name) = true
 is_struct _ = false
 
+-- the expression is a struct
 abbrev pub gives_struct : Site → Expr → Bool
 gives_struct s e = is_struct (type_of s e)
 
@@ -158,10 +170,12 @@ n7 s (Calloc a type) = gives_struct s a
 
 -- ---- N8 and N9: in a parallel statement a call of a function that may print, or may allocate, and `calloc` itself
 
+-- at a call of a function that may print
 abbrev pub n8 : Site → Node → Bool
 n8 s (Call f args) = s.parallel && s.prints f
 n8 s _ = false
 
+-- at a `calloc`, and at a call of a function that may allocate
 abbrev pub n9 : Site → Node → Bool
 n9 s (Call f args) = s.parallel && s.allocates f
 n9 s (Calloc a type) = s.parallel

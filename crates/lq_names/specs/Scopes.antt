@@ -1,9 +1,8 @@
 -- What is in scope where (docs/LANGUAGE.md, "Scope").
 use Rattle.std.specs.Prelude.{ℕ, Bool, true, length, List, [], ◌∷◌, ◌++◌, Option}
-use Rattle.std.specs.List.{list_any}
 use Rattle.lq_tree.specs.declared.expr.CType.{CType}
 use Rattle.lq_tree.specs.declared.program.Program.{Program}
-pub use Rattle.lq_tree.specs.Types.{same, Ty, Number, Pointer, Element, Whole, Nothing, Unknown, declared_as, declared, Variable, or_later, type_in, struct_of, function_of, field_among, field_of}
+pub use Rattle.lq_tree.specs.Types.{same, Ty, Number, Pointer, Element, Whole, Nothing, Unknown, declared_as, declared, Variable, or_later, type_in, is_in_scope, struct_of, function_of, field_among, field_of}
 
 -- where a statement or an expression stands
 pub record Site : Type 0 where
@@ -21,10 +20,6 @@ pub record Site : Type 0 where
   pub outside : ℕ
   -- it stands in a parallel statement
   pub parallel : Bool
-
--- the name is in scope
-abbrev pub is_in_scope : List Variable → List ℕ → Bool
-is_in_scope scope name = list_any (λ (v : Variable). same v.name name) scope
 
 -- the site behind a declaration
 abbrev pub declare : Site → List ℕ → Ty → Site

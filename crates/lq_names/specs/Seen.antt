@@ -10,6 +10,7 @@ use Rattle.lq_names.specs.Scopes.{Site, Variable, same}
 abbrev pub is_among : List (List ℕ) → List ℕ → Bool
 is_among names name = list_any (λ other. same name other) names
 
+-- a site of the code
 abbrev pub at_site : Known → Site
 at_site s = record {
   program = s.program.now;

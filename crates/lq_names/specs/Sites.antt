@@ -1,31 +1,11 @@
--- Every statement of a function with the site at which it stands, and every node of an expression.
+-- Every statement of a function with the site at which it stands.
 use Rattle.std.specs.Prelude.{ℕ, List, [], ◌∷◌, ◌++◌, Option, None, Some}
 use Rattle.std.specs.List.{flat_map}
 use Rattle.lq_tree.specs.declared.place.Place.{Place}
-use Rattle.lq_tree.specs.declared.expr.Expr.{Expr, Num, Var, Neg', Not', Bin', Index', Deref', Arrow', Dot', Call' as CallExpr', Calloc', Row_of-Expr, end_of-Expr, more_of-Expr}
 use Rattle.lq_tree.specs.declared.stmt.StmtKind.{StmtKind, Block', Local, If', While', For', Cobegin', Foreach', Row_of-Stmt, end_of-Stmt, more_of-Stmt, Row_of-Arm, end_of-Arm, more_of-Arm, None', Some', Held-StmtKind-If-1}
 use Rattle.lq_tree.specs.declared.stmt.Stmt.{Stmt}
 use Rattle.lq_tree.specs.declared.stmt.Arm.{Arm, Arm', out-Arm}
 use Rattle.lq_names.specs.Scopes.{Site, Number, declared, declare, in_parallel}
-
--- the nodes of an expression: itself and its parts at any depth
-unfoldable mutual
-  pub nodes : Expr → List Expr
-  nodes (Num n) = Num n ∷ []
-  nodes (Var name) = Var name ∷ []
-  nodes (Neg' p a) = Neg' p a ∷ nodes_row a
-  nodes (Not' p a) = Not' p a ∷ nodes_row a
-  nodes (Bin' op p a q b) = Bin' op p a q b ∷ nodes_row a ++ nodes_row b
-  nodes (Index' p a q b) = Index' p a q b ∷ nodes_row a ++ nodes_row b
-  nodes (Deref' p a) = Deref' p a ∷ nodes_row a
-  nodes (Arrow' p a field) = Arrow' p a field ∷ nodes_row a
-  nodes (Dot' p a field) = Dot' p a field ∷ nodes_row a
-  nodes (CallExpr' f n args) = CallExpr' f n args ∷ nodes_row args
-  nodes (Calloc' p a type) = Calloc' p a type ∷ nodes_row a
-
-  pub nodes_row : {n : _} → Row_of-Expr n → List Expr
-  nodes_row end_of-Expr = []
-  nodes_row (more_of-Expr e rest) = nodes e ++ nodes_row rest
 
 -- a statement and where it stands
 pub record Placed : Type 0 where
@@ -43,6 +23,7 @@ abbrev pub after_row : {n : _} → Site → Row_of-Stmt n → Site
 after_row s end_of-Stmt = s
 after_row s (more_of-Stmt at kind rest) = after s kind
 
+-- the same of a first part that may be missing
 abbrev pub after_first : Site → Held-StmtKind-If-1 → Site
 after_first s None' = s
 after_first s (Some' p first) = after_row s first
@@ -62,8 +43,8 @@ unfoldable mutual
       let inner = after_first s first in
       sites_held s first ++ (record { site = inner; at = at; kind = For' first e third p body } ∷ sites_held inner third ++ sites_row inner body)
   sites s at (Cobegin' n blocks) = sites_each (in_parallel s) blocks
-  sites s at (Foreach' index low high p body) =
-      record { site = s; at = at; kind = Foreach' index low high p body } ∷ sites_row (iteration s index) body
+  sites s at (Foreach' index low high step p body) =
+      record { site = s; at = at; kind = Foreach' index low high step p body } ∷ sites_row (iteration s index) body
   sites s at kind = record { site = s; at = at; kind = kind } ∷ []
 
   -- statements one after another
@@ -81,6 +62,7 @@ unfoldable mutual
   sites_arms s end_of-Arm = []
   sites_arms s (more_of-Arm arm rest) = sites_arm s arm ++ sites_arms s rest
 
+  -- one of them
   pub sites_arm : Site → Arm → List Placed
   sites_arm s (Arm' e p body) = sites_row s body
 
@@ -94,19 +76,24 @@ abbrev pub sites_list : Site → List Stmt → List Placed
 sites_list s [] = []
 sites_list s (stmt ∷ rest) = sites s stmt.at stmt.kind ++ sites_list (after s stmt.kind) rest
 
+-- one statement
 abbrev pub sites_of : Site → Stmt → List Placed
 sites_of s stmt = sites s stmt.at stmt.kind
 
+-- blocks beside each other
 abbrev pub sites_beside : Site → List Stmt → List Placed
 sites_beside s blocks = flat_map (sites_of s) blocks
 
+-- the bodies of an `if`
 abbrev pub sites_of_bodies : Site → List Arm → List Placed
 sites_of_bodies s arms = flat_map (λ (arm : Arm). sites_of s (out-Arm arm).body) arms
 
+-- a statement that may be missing
 abbrev pub sites_of_other : Site → Option Stmt → List Placed
 sites_of_other s None = []
 sites_of_other s (Some stmt) = sites_of s stmt
 
+-- the site behind a statement that may be missing
 abbrev pub after_other : Site → Option Stmt → Site
 after_other s None = s
 after_other s (Some stmt) = after s stmt.kind

@@ -12,10 +12,9 @@ use crate::effects::{Effect, functions_that};
 use crate::fault::{Fault, NamesFault};
 use crate::headers::{at_entry, at_head, at_struct};
 use crate::names::Names;
-use crate::site::{Frame, Variable};
+use crate::site::Frame;
 use crate::statements::in_function_body;
-use crate::types::declared;
-use lq_tree::{Func, Param, Program, StructDef};
+use lq_tree::{Func, Param, Program, StructDef, Variable, declared};
 use std::alloc::{AllocError, Global};
 
 /// The least fault, with those of the structs.

@@ -1,10 +1,10 @@
 //! The counts of a program, and their limits.
 
-ghost use Rattle.std.specs.Prelude.{◌≡◌, [], ◌∷◌, map, option_map};
+ghost use Rattle.std.specs.Prelude.{◌≡◌, map, option_map};
 ghost use Rattle.lq_tree.specs.declared.stmt.Arm.{out-Arm};
 ghost use Rattle.lq_names.specs.Counts as spec;
 
-use lq_tree::{Arm, Boxed, Func, Limit, Program, Stmt, StmtKind, StructDef};
+use lq_tree::{Arm, Boxed, Func, Limit, Program, Quantity, Stmt, StmtKind, StructDef};
 
 /// What is counted in a part of a function.
 #[derive(Clone, Copy, Debug, PartialEq, Eq)]
@@ -18,32 +18,6 @@ pub struct Sizes {
     /// The most conditions of one `if`.
     arms: u64,
 }
-
-/// The place of each quantity in the table of limits, from 1.
-const FUNCTIONS: u32 = 8;
-
-const STRUCTS: u32 = 11;
-
-const FIELDS: u32 = 12;
-
-const LOCALS: u32 = 13;
-
-const BRANCHES: u32 = 14;
-
-const ARMS: u32 = 18;
-
-/// How many of each are allowed.
-const MAX_FUNCTIONS: u64 = 256;
-
-const MAX_STRUCTS: u64 = 64;
-
-const MAX_FIELDS: u64 = 16;
-
-const MAX_LOCALS: u64 = 32;
-
-const MAX_BRANCHES: u64 = 16;
-
-const MAX_ARMS: u64 = 64;
 
 const NO_SIZES: Sizes = Sizes {
     declared: 0,
@@ -116,7 +90,7 @@ fn in_stmt(stmt: &Stmt) -> Sizes
         StmtKind::Cobegin(blocks) => {
             behind(branches_of(blocks.len()), in_branches(blocks.as_slice()))
         }
-        StmtKind::Foreach(_, _, _, body) => closed(behind(ONE_LOCAL, in_stmt(body.get()))),
+        StmtKind::Foreach(_, _, _, _, body) => closed(behind(ONE_LOCAL, in_stmt(body.get()))),
         _ => NO_SIZES,
     }
 }
@@ -209,20 +183,6 @@ fn most_fields(structs: &[StructDef]) -> u64
     most as u64
 }
 
-/// Whether a count keeps its limit.
-fn within(which: u32, found: u64, allowed: u64) -> Result<(), Limit>
-    ensures { result ≡ spec.answer (spec.first_passed (spec.count which found allowed ∷ [])) }
-{
-    if found > allowed {
-        return Err(Limit {
-            which,
-            found,
-            allowed,
-        });
-    }
-    Ok(())
-}
-
 /// Tests the counts of a program against their limits, in this order: functions, structs, fields of one struct, locals
 /// in scope at once, branches of one `cobegin`, conditions of one `if` (docs/COMMANDS.md, "Limits"). FOUND is the
 /// largest count. It takes no memory.
@@ -230,10 +190,10 @@ pub fn check_counts(program: &Program) -> Result<(), Limit>
     ensures { result ≡ spec.answer (spec.first_passed (spec.counts program.now)) }
 {
     let sizes = in_functions(program.funcs.as_slice());
-    within(FUNCTIONS, program.funcs.len() as u64, MAX_FUNCTIONS)?;
-    within(STRUCTS, program.structs.len() as u64, MAX_STRUCTS)?;
-    within(FIELDS, most_fields(program.structs.as_slice()), MAX_FIELDS)?;
-    within(LOCALS, sizes.locals, MAX_LOCALS)?;
-    within(BRANCHES, sizes.branches, MAX_BRANCHES)?;
-    within(ARMS, sizes.arms, MAX_ARMS)
+    Quantity::Functions.check(program.funcs.len() as u64)?;
+    Quantity::Structs.check(program.structs.len() as u64)?;
+    Quantity::Fields.check(most_fields(program.structs.as_slice()))?;
+    Quantity::Locals.check(sizes.locals)?;
+    Quantity::Branches.check(sizes.branches)?;
+    Quantity::Arms.check(sizes.arms)
 }

@@ -11,9 +11,8 @@ ghost use Rattle.lq_names.specs.Scopes as scopes;
 ghost use Rattle.lq_names.specs.Sites as sites;
 ghost use Rattle.lq_names.specs.Seen.{is_among};
 
-use crate::lookup::function_of;
 use crate::names::Names;
-use lq_tree::{Arm, Boxed, Expr, Func, Name, Program, Stmt, StmtKind};
+use lq_tree::{Arm, Boxed, Expr, Func, Name, Program, Stmt, StmtKind, function_of};
 use std::alloc::{AllocError, Global};
 
 /// What a function may do.
@@ -102,7 +101,7 @@ fn value_does(effect: Effect, names: &Names<'_>, kind: &StmtKind) -> bool
         | StmtKind::Return(Some(value))
         | StmtKind::Print(value) => expression_does(effect, names, value),
         StmtKind::Store(target, value) => either_does(effect, names, target, value),
-        StmtKind::Foreach(_, low, high, _) => either_does(effect, names, low, high),
+        StmtKind::Foreach(_, low, high, _, _) => either_does(effect, names, low, high),
         _ => false,
     }
 }
@@ -139,7 +138,7 @@ fn stmt_does(effect: Effect, names: &Names<'_>, stmt: &Stmt) -> bool
             first | other_does(effect, names, other)
         }
         StmtKind::While(_, body) => own | stmt_does(effect, names, body.get()),
-        StmtKind::Foreach(_, _, _, body) => own | stmt_does(effect, names, body.get()),
+        StmtKind::Foreach(_, _, _, _, body) => own | stmt_does(effect, names, body.get()),
         StmtKind::For(start, _, third, body) => {
             let first = other_does(effect, names, start) | own;
             let next = first | other_does(effect, names, third);
@@ -187,7 +186,7 @@ fn other_does(effect: Effect, names: &Names<'_>, other: &Option<Boxed<Stmt>>) ->
 
 /// Whether a function does it, or calls one of these functions.
 fn function_does(program: &Program, effect: Effect, names: &Names<'_>, name: &Name) -> bool
-    ensures { result ≡ calls.function_does program.now effect (is_among names.now) (scopes.function_of program.now.funcs name.now) }
+    ensures { result ≡ calls.function_does effect (is_among names.now) (scopes.function_of program.now.funcs name.now) }
 {
     match function_of(program, name) {
         Some(function) => stmts_do(effect, names, function.body.as_slice()),

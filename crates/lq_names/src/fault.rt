@@ -13,7 +13,7 @@ pub struct Fault {
 /// Why the names of a program are refused.
 #[derive(Clone, Copy, Debug, PartialEq, Eq)]
 pub enum NamesFault {
-    /// A rule, from 1 to 12, is broken at this place (docs/LANGUAGE.md, "Name rules").
+    /// A rule, from 1 to 13, is broken at this place (docs/LANGUAGE.md, "Name rules").
     Rule { rule: u8, at: Place },
     /// There was no memory for the check.
     NoMemory,

@@ -12,11 +12,11 @@ ghost use Rattle.lq_names.specs.Seen.{is_among};
 
 use crate::fault::Fault;
 use crate::least::note;
-use crate::lookup::same;
 use crate::names::Names;
 use crate::rules::{is_main, is_whole};
-use crate::types::{ExprType, declared, is_known};
-use lq_tree::{Base, CType, Func, Name, Param, Place, Program, StructDef};
+use lq_tree::{
+    Base, CType, ExprType, Func, Name, Param, Place, Program, StructDef, declared, is_known, same,
+};
 
 /// Whether it is one star on `int`.
 fn is_int_pointer(given: ExprType<'_>) -> bool

@@ -9,7 +9,7 @@ ghost use Rattle.lq_names.specs.Seen.{at_site};
 use crate::fault::Fault;
 use crate::rules::{n1, n3, n5, n6, n7, n8, n9};
 use crate::site::Site;
-use crate::statement_rules::{s1, s3, s4, s5, s6, s7, s8, s9, s10, s11, s12};
+use crate::statement_rules::{s1, s3, s4, s5, s6, s7, s8, s9, s10, s11, s12, s13};
 use lq_tree::{Expr, Place, StmtKind};
 
 /// Whether a place comes before another.
@@ -84,5 +84,6 @@ pub fn at_statement(
     let found = note(found, s9(site, kind), 9, at);
     let found = note(found, s10(site, kind), 10, at);
     let found = note(found, s11(site, kind), 11, at);
-    note(found, s12(site, kind), 12, at)
+    let found = note(found, s12(site, kind), 12, at);
+    note(found, s13(kind), 13, at)
 }

@@ -9,7 +9,6 @@ mod fault;
 mod headers;
 mod laws;
 mod least;
-mod lookup;
 mod names;
 mod rules;
 mod site;
@@ -17,7 +16,6 @@ mod statement_rules;
 mod statements;
 #[cfg(test)]
 mod tests;
-mod types;
 mod walk;
 
 pub use check::check_names;

@@ -9,10 +9,11 @@ ghost use Rattle.lq_names.specs.Types as types;
 ghost use Rattle.lq_names.specs.Types.{seen};
 ghost use Rattle.lq_names.specs.Seen.{at_site};
 
-use crate::lookup::{field_of, function_of, same};
 use crate::site::Site;
-use crate::types::{ExprType, declared, is_known, type_of};
-use lq_tree::{Base, BinOp, Expr, Func, Name, Param, Program};
+use lq_tree::{
+    Base, BinOp, Expr, ExprType, Func, Name, Param, Program, declared, field_of, function_of,
+    is_known, same,
+};
 
 /// Whether an expression is the literal 0, which may stand for a pointer.
 fn is_zero(expr: &Expr) -> bool
@@ -50,7 +51,7 @@ fn disagrees(wanted: ExprType<'_>, given: ExprType<'_>, is_zero: bool) -> bool
 pub fn misfits(site: &Site<'_>, wanted: ExprType<'_>, expr: &Expr) -> bool
     ensures { result ≡ spec.misfits (at_site site.now) (seen wanted.entry) expr.now }
 {
-    disagrees(wanted, type_of(site, expr), is_zero(expr))
+    disagrees(wanted, site.type_of(expr), is_zero(expr))
 }
 
 /// Whether an argument can't be its parameter; only those with a parameter at their position are compared.
@@ -118,9 +119,9 @@ pub fn n3(site: &Site<'_>, expr: &Expr) -> bool
     match expr {
         Expr::Var(name) => !site.is_in_scope(name),
         Expr::Arrow(base, field) => {
-            lacks_field(program, type_of(site, base.get()).element(), field)
+            lacks_field(program, site.type_of(base.get()).element(), field)
         }
-        Expr::Dot(base, field) => lacks_field(program, type_of(site, base.get()), field),
+        Expr::Dot(base, field) => lacks_field(program, site.type_of(base.get()), field),
         Expr::Call(name, _) => function_of(program, name).is_none(),
         Expr::Calloc(_, ctype) => !is_known(program, &ctype.base),
         _ => false,
@@ -141,8 +142,8 @@ fn operator_misfits(site: &Site<'_>, operator: BinOp, left: &Expr, right: &Expr)
     ensures { result ≡ spec.operator_misfits operator (types.type_of (at_site site.now) left.now) (spec.is_zero left.now)
         (types.type_of (at_site site.now) right.now) (spec.is_zero right.now) }
 {
-    let left_type = type_of(site, left);
-    let right_type = type_of(site, right);
+    let left_type = site.type_of(left);
+    let right_type = site.type_of(right);
     match operator {
         BinOp::Add | BinOp::Sub => right_type.is_pointer(),
         BinOp::Eq | BinOp::Ne => {
@@ -163,14 +164,14 @@ fn has_no_fields(given: ExprType<'_>) -> bool
 pub fn is_no_number(site: &Site<'_>, expr: &Expr) -> bool
     ensures { result ≡ types.is_pointer (types.type_of (at_site site.now) expr.now) }
 {
-    type_of(site, expr).is_pointer()
+    site.type_of(expr).is_pointer()
 }
 
 /// Whether an expression is an int.
 fn is_number(site: &Site<'_>, expr: &Expr) -> bool
     ensures { result ≡ types.is_number (types.type_of (at_site site.now) expr.now) }
 {
-    type_of(site, expr).is_number()
+    site.type_of(expr).is_number()
 }
 
 /// N5 at a node: types disagree.
@@ -190,9 +191,9 @@ pub fn n5(site: &Site<'_>, expr: &Expr) -> bool
         }
         Expr::Deref(base) => is_number(site, base.get()),
         Expr::Arrow(base, _) => {
-            is_number(site, base.get()) || has_no_fields(type_of(site, base.get()).element())
+            is_number(site, base.get()) || has_no_fields(site.type_of(base.get()).element())
         }
-        Expr::Dot(base, _) => has_no_fields(type_of(site, base.get())),
+        Expr::Dot(base, _) => has_no_fields(site.type_of(base.get())),
         Expr::Call(name, args) => {
             arguments_misfit(site, function_of(site.program, name), args.as_slice())
         }
@@ -203,7 +204,7 @@ pub fn n5(site: &Site<'_>, expr: &Expr) -> bool
 pub fn gives_nothing(site: &Site<'_>, expr: &Expr) -> bool
     ensures { result ≡ spec.gives_nothing (at_site site.now) expr.now }
 {
-    matches!(type_of(site, expr), ExprType::Nothing)
+    matches!(site.type_of(expr), ExprType::Nothing)
 }
 
 /// Whether one of several does.
@@ -247,7 +248,7 @@ pub fn gives_struct(site: &Site<'_>, expr: &Expr) -> bool
     ensures { result ≡ spec.gives_struct (at_site site.now) expr.now }
 {
     matches!(
-        type_of(site, expr),
+        site.type_of(expr),
         ExprType::Element(_) | ExprType::Whole(_)
     )
 }
@@ -265,7 +266,7 @@ pub fn n7(site: &Site<'_>, expr: &Expr) -> bool
 {
     match expr {
         Expr::Num(_) | Expr::Var(_) => false,
-        Expr::Dot(base, _) => is_whole(type_of(site, base.get())),
+        Expr::Dot(base, _) => is_whole(site.type_of(base.get())),
         Expr::Bin(_, left, right) | Expr::Index(left, right) => {
             gives_struct(site, left.get()) || gives_struct(site, right.get())
         }

@@ -2,53 +2,10 @@
 
 ghost use Rattle.std.specs.Prelude.{◌≡◌, List, drop, true};
 
-use crate::lookup::same;
 use crate::names::Names;
-use crate::types::ExprType;
-use lq_tree::{CType, Name, Program};
-use std::marker::Model;
-
-/// A parameter, a local or an index.
-#[derive(Drop)]
-pub struct Variable<'a> {
-    name: &'a Name,
-    kind: ExprType<'a>,
-}
-
-impl<'a> Model for Variable<'a> {
-    ghost use Rattle.lq_names.specs.Scopes.{Variable as Declared};
-    ghost use Rattle.lq_names.specs.Types.{seen};
-
-    ghost Value = { Declared };
-
-    ghost view = { λ v. record { name = v.name.now; type = seen v.kind } };
-}
-
-impl<'a> Variable<'a> {
-    ghost use Rattle.lq_names.specs.Scopes as scopes;
-    ghost use Rattle.lq_names.specs.Types.{seen};
-
-    /// A variable of this name and type.
-    pub fn new(name: &'a Name, kind: ExprType<'a>) -> Variable<'a>
-        ensures { result ≡ record { name = name.now; type = seen kind.entry } }
-    {
-        Variable { name, kind }
-    }
-
-    /// Whether it has this name.
-    fn is_named(&self, name: &Name) -> bool
-        ensures { result ≡ scopes.same self.now.name name.now }
-    {
-        same(self.name, name)
-    }
-
-    /// Its type.
-    fn kind(&self) -> ExprType<'a>
-        ensures { seen result ≡ self.now.type }
-    {
-        self.kind
-    }
-}
+use lq_tree::{
+    CType, Expr, ExprType, Name, Program, Variable, is_in_scope, type_in_scope, type_of,
+};
 
 /// Where a statement or an expression stands.
 #[derive(Clone, Copy)]
@@ -71,26 +28,29 @@ pub struct Site<'a> {
 
 impl<'a> Site<'a> {
     ghost use Rattle.lq_names.specs.Scopes as scopes;
+    ghost use Rattle.lq_names.specs.Types as types;
     ghost use Rattle.lq_names.specs.Types.{seen};
+    ghost use Rattle.lq_names.specs.Seen.{at_site};
 
     /// The type of a variable in scope: of two of one name the later one is meant, and none is unknown.
     pub fn type_in_scope(&self, name: &Name) -> ExprType<'a>
         ensures { seen result ≡ scopes.type_in self.now.scope.now name.now }
     {
-        let mut found = ExprType::Unknown;
-        for variable in self.scope {
-            if variable.is_named(name) {
-                found = variable.kind();
-            }
-        }
-        found
+        type_in_scope(self.scope, name)
+    }
+
+    /// The type of an expression.
+    pub fn type_of(&self, expr: &'a Expr) -> ExprType<'a>
+        ensures { seen result ≡ types.type_of (at_site self.now) expr.now }
+    {
+        type_of(self.program, self.scope, expr)
     }
 
     /// Whether the name is in scope.
     pub fn is_in_scope(&self, name: &Name) -> bool
         ensures { result ≡ scopes.is_in_scope self.now.scope.now name.now }
     {
-        self.scope.iter().any(|variable| variable.is_named(name))
+        is_in_scope(self.scope, name)
     }
 
     /// Whether the name is declared inside the innermost parallel statement.

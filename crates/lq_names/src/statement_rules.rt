@@ -8,14 +8,12 @@ ghost use Rattle.lq_names.specs.Rules as rules;
 ghost use Rattle.lq_names.specs.Types.{result_of, seen};
 ghost use Rattle.lq_names.specs.Seen.{at_site};
 
-use crate::lookup::function_of;
 use crate::rules::{
     arguments_misfit, gives_nothing, gives_struct, is_main, is_no_number, is_whole, miscounts,
     misfits, one_gives_nothing, one_gives_struct,
 };
 use crate::site::Site;
-use crate::types::{ExprType, declared, is_known, type_of};
-use lq_tree::{Arm, Expr, StmtKind};
+use lq_tree::{Arm, Expr, ExprType, StmtKind, declared, function_of, is_known, is_step};
 
 /// N1 at a statement: `main` is called.
 pub fn s1(kind: &StmtKind) -> bool
@@ -44,7 +42,7 @@ pub fn s4(site: &Site<'_>, kind: &StmtKind) -> bool
     ensures { result ≡ spec.s4 (at_site site.now) (out-StmtKind kind.now) }
 {
     match kind {
-        StmtKind::Local(_, name, _) | StmtKind::Foreach(name, _, _, _) => site.is_in_scope(name),
+        StmtKind::Local(_, name, _) | StmtKind::Foreach(name, _, _, _, _) => site.is_in_scope(name),
         _ => false,
     }
 }
@@ -73,7 +71,7 @@ pub fn s5(site: &Site<'_>, kind: &StmtKind) -> bool
     match kind {
         StmtKind::Local(ctype, _, Some(value)) => misfits(site, declared(ctype), value),
         StmtKind::Set(name, value) => misfits(site, site.type_in_scope(name), value),
-        StmtKind::Store(target, value) => misfits(site, type_of(site, target), value),
+        StmtKind::Store(target, value) => misfits(site, site.type_of(target), value),
         StmtKind::Call(name, args) => {
             arguments_misfit(site, function_of(site.program, name), args.as_slice())
         }
@@ -81,7 +79,8 @@ pub fn s5(site: &Site<'_>, kind: &StmtKind) -> bool
         StmtKind::While(value, _) | StmtKind::For(_, Some(value), _, _) | StmtKind::Print(value) =>
             { is_no_number(site, value) }
         StmtKind::Return(Some(value)) => misfits(site, wanted_result(site), value),
-        StmtKind::Foreach(_, low, high, _) => is_no_number(site, low) || is_no_number(site, high),
+        StmtKind::Foreach(_, low, high, _, _) => is_no_number(site, low)
+            || is_no_number(site, high),
         _ => false,
     }
 }
@@ -124,7 +123,7 @@ fn value_gives_nothing(site: &Site<'_>, kind: &StmtKind) -> bool
         | StmtKind::Return(Some(value))
         | StmtKind::Print(value) => gives_nothing(site, value),
         StmtKind::Store(target, value) => either_gives_nothing(site, target, value),
-        StmtKind::Foreach(_, low, high, _) => either_gives_nothing(site, low, high),
+        StmtKind::Foreach(_, low, high, _, _) => either_gives_nothing(site, low, high),
         _ => false,
     }
 }
@@ -175,7 +174,7 @@ fn value_gives_struct(site: &Site<'_>, kind: &StmtKind) -> bool
         | StmtKind::Return(Some(value))
         | StmtKind::Print(value) => gives_struct(site, value),
         StmtKind::Store(target, value) => either_gives_struct(site, target, value),
-        StmtKind::Foreach(_, low, high, _) => either_gives_struct(site, low, high),
+        StmtKind::Foreach(_, low, high, _, _) => either_gives_struct(site, low, high),
         _ => false,
     }
 }
@@ -232,6 +231,16 @@ pub fn s12(site: &Site<'_>, kind: &StmtKind) -> bool
     match kind {
         StmtKind::Return(Some(_)) => site.returns.is_none(),
         StmtKind::Return(None) => site.returns.is_some(),
+        _ => false,
+    }
+}
+
+/// N13 at a statement: the step of a `foreach` is none.
+pub fn s13(kind: &StmtKind) -> bool
+    ensures { result ≡ spec.s13 (out-StmtKind kind.now) }
+{
+    match kind {
+        StmtKind::Foreach(_, _, _, step, _) => !is_step(*step),
         _ => false,
     }
 }

@@ -10,10 +10,9 @@ ghost use Rattle.lq_names.specs.Seen.{at_site, frame_site};
 
 use crate::fault::Fault;
 use crate::least::at_statement;
-use crate::site::{Frame, Site, Variable};
-use crate::types::{ExprType, declared};
+use crate::site::{Frame, Site};
 use crate::walk::{in_expression, in_expressions};
-use lq_tree::{Arm, Boxed, Expr, Name, Place, Stmt, StmtKind};
+use lq_tree::{Arm, Boxed, Expr, ExprType, Name, Place, Stmt, StmtKind, Variable, declared};
 use std::alloc::AllocError;
 
 /// The least fault, with those in the conditions of an `if`.
@@ -62,7 +61,7 @@ fn in_values(site: &Site<'_>, at: Place, kind: &StmtKind, found: Option<Fault>) 
         StmtKind::Return(Some(value)) => in_one(site, at, value, found),
         StmtKind::Print(value) => in_one(site, at, value, found),
         StmtKind::Store(target, value) => in_two(site, at, target, value, found),
-        StmtKind::Foreach(_, low, high, _) => in_two(site, at, low, high, found),
+        StmtKind::Foreach(_, low, high, _, _) => in_two(site, at, low, high, found),
         StmtKind::Call(_, args) => in_expressions(site, at, args.as_slice(), found),
         StmtKind::If(arms, _) => in_conditions(site, at, arms.as_slice(), found),
         _ => in_expressions(site, at, &[], found),
@@ -74,7 +73,7 @@ fn head_frame<'a>(frame: Frame<'a>, scope: &[Variable<'a>], kind: &StmtKind) -> 
     ensures { frame_site result scope.now ≡ faults.head_site (frame_site frame.entry scope.now) (out-StmtKind kind.now) }
 {
     match kind {
-        StmtKind::Foreach(_, _, _, _) => frame.in_parallel(scope.len()),
+        StmtKind::Foreach(_, _, _, _, _) => frame.in_parallel(scope.len()),
         _ => frame,
     }
 }
@@ -121,7 +120,7 @@ fn in_statement<'a>(
             let first = at_itself(frame, scope.as_slice(), at, &stmt.kind, found);
             in_body(frame, scope, body.get(), first)
         }
-        StmtKind::Foreach(index, _, _, body) => {
+        StmtKind::Foreach(index, _, _, _, body) => {
             let first = at_itself(frame, scope.as_slice(), at, &stmt.kind, found);
             in_iteration(frame, scope, index, body.get(), first)
         }

@@ -76,7 +76,7 @@ fn tells_a_print_in_a_parallel_statement(rt: HostRuntime) -> Result<(), Fail> {
     let mut body = Items::new(alloc);
     body.push(statement(
         2,
-        StmtKind::Foreach(index, Expr::Num(0), Expr::Num(2), inner),
+        StmtKind::Foreach(index, Expr::Num(0), Expr::Num(2), 1, inner),
     ))?;
     let program = main_with(alloc, body)?;
     let at = Place { line: 3, col: 3 };
@@ -84,6 +84,33 @@ fn tells_a_print_in_a_parallel_statement(rt: HostRuntime) -> Result<(), Fail> {
         check_names(alloc, &program),
         Err(NamesFault::Rule { rule: 8, at })
     );
+    Ok(())
+}
+
+// foreach (i, 0, 2, step) { }
+#[test]
+fn tells_what_is_no_step(rt: HostRuntime) -> Result<(), Fail> {
+    let alloc = rt.alloc();
+    let at = Place { line: 2, col: 3 };
+    let no_step = Err(NamesFault::Rule { rule: 13, at });
+    let cases = [
+        (-1, no_step),
+        (0, no_step),
+        (1, Ok(())),
+        (65_536, Ok(())),
+        (65_537, no_step),
+    ];
+    for (step, answer) in cases {
+        let inner = Boxed::new(alloc, statement(2, StmtKind::Block(Items::new(alloc))))?;
+        let index = Name::from_slice(alloc, b"i")?;
+        let mut body = Items::new(alloc);
+        body.push(statement(
+            2,
+            StmtKind::Foreach(index, Expr::Num(0), Expr::Num(2), step, inner),
+        ))?;
+        let program = main_with(alloc, body)?;
+        assert_eq!(rt; check_names(alloc, &program), answer, "the step {step}");
+    }
     Ok(())
 }
 

@@ -6,7 +6,6 @@ use Rattle.lq_parser.specs.declared.lexeme.Lexeme.{Lexeme}
 use Rattle.lq_parser.specs.Lexemes.{first}
 use Rattle.lq_parser.specs.Outcome.{Done, Fails, place_of_first}
 use Rattle.lq_parser.proofs.Leads.{Leads}
-use Rattle.lq_parser.proofs.Cuts.{heads, tails}
 
 -- the list that begins with this lexeme
 pub begins_with : (ls : List Lexeme) (l : Lexeme) → first ls ≡ Some l → (rest : List Lexeme) × (ls ≡ l ∷ rest)
@@ -20,37 +19,6 @@ empty_front (l ∷ front) other h = absurd cc
 pub is_empty : (ls : List Lexeme) → first ls ≡ None → ls ≡ []
 is_empty [] h = refl
 is_empty (l ∷ ls) h = absurd cc
-
--- a lexeme that is read leads to what may stand behind it, where it may not follow the whole
-pub leads_behind : {A : Type 0} {X : List Lexeme → A → Type 0} {F : Option Lexeme → Type 0} {t : Lexeme} {ls rest : List Lexeme}
-    → (F (Some t) → ⊥) → ls ≡ t ∷ rest → Leads X F ls (λ u v. X (t ∷ u) v) rest
-leads_behind {A = A} {X = X} {F = F} {t = t} {ls = ls} {rest = rest} never begins = record { done = done; fails = fails }
-  where
-    done : (v : A) (end : List Lexeme) → Done (λ u w. X (t ∷ u) w) F rest v end → Done X F ls v end
-    done v end e = record {
-      front = t ∷ e.front;
-      split = begins ∙ ap (λ u. t ∷ u) e.split;
-      spelled = e.spelled;
-      only = λ other f r w h eq x s. only f other r w h eq x s;
-    }
-      where
-        only : (f other r : List Lexeme) (w : A) → first other ≡ first end → (t ∷ e.front) ++ other ≡ f ++ r → X f w → F (first r) → (w ≡ v) × (r ≡ other)
-        only [] other r w h eq x s = absurd (never (subst F (sym (ap first eq)) s))
-        only (l ∷ f) other r w h eq x s = e.only other f r w h (tails eq) (subst (λ z. X (z ∷ f) w) (sym (heads eq)) x) s
-
-    fails : (end : List Lexeme) → Fails (λ u w. X (t ∷ u) w) F rest end → Fails X F ls end
-    fails end e = record {
-      front = t ∷ e.front;
-      split = begins ∙ ap (λ u. t ∷ u) e.split;
-      more = e.more;
-      value = e.value;
-      viable = e.viable;
-      dead = λ other f r w h eq x s. dead f other r w h eq x s;
-    }
-      where
-        dead : (f other r : List Lexeme) (w : A) → first other ≡ first end → (t ∷ e.front) ++ other ≡ f ++ r → X f w → F (first r) → ⊥
-        dead [] other r w h eq x s = never (subst F (sym (ap first eq)) s)
-        dead (l ∷ f) other r w h eq x s = e.dead other f r w h (tails eq) (subst (λ z. X (z ∷ f) w) (sym (heads eq)) x) s
 
 -- the place of the first lexeme doesn't depend on what comes later
 same_place : (u w : List Lexeme) → (u ≡ [] → ⊥) → place_of_first u ≡ place_of_first (u ++ w)

@@ -9,20 +9,13 @@ use Rattle.lq_parser.specs.declared.lexeme.Sign.{Sign}
 use Rattle.lq_parser.specs.Lexemes.{first, sign_at}
 use Rattle.lq_parser.specs.Sequence.{Then, then, Makes, makes, IsOne, one}
 use Rattle.lq_parser.specs.Outcome.{Done, Fails, BeginsAs, Anything}
-use Rattle.lq_parser.proofs.Apart.{signs}
-use Rattle.lq_parser.proofs.Leads.{Leads, Completes, leads_then, fails_then}
+use Rattle.lq_parser.proofs.Apart.{signs, heads, tails, some_same}
+use Rattle.lq_parser.proofs.Leads.{Leads, Completes, leads_then, fails_then, parts}
 
--- equal lists have equal heads and tails
-pub heads : {A : Type 0} {a c : A} {u w : List A} → a ∷ u ≡ c ∷ w → a ≡ c
-heads e = cc
-
-pub tails : {A : Type 0} {a c : A} {u w : List A} → a ∷ u ≡ c ∷ w → u ≡ w
-tails e = cc
-
--- a lexeme that is read leads to what may stand behind it
-pub leads_cut : {A : Type 0} {X : List Lexeme → A → Type 0} {F : Option Lexeme → Type 0} {t : Lexeme} {ls rest : List Lexeme}
-    → ((v : A) → X [] v → ⊥) → ls ≡ t ∷ rest → Leads X F ls (λ u v. X (t ∷ u) v) rest
-leads_cut {A = A} {X = X} {F = F} {t = t} {ls = ls} {rest = rest} some begins = record { done = done; fails = fails }
+-- a lexeme that is read leads to what may stand behind it, where nothing that is spelled ends before it
+pub leads_past : {A : Type 0} {X : List Lexeme → A → Type 0} {F : Option Lexeme → Type 0} {t : Lexeme} {ls rest : List Lexeme}
+    → ((v : A) → X [] v → F (Some t) → ⊥) → ls ≡ t ∷ rest → Leads X F ls (λ u v. X (t ∷ u) v) rest
+leads_past {A = A} {X = X} {F = F} {t = t} {ls = ls} {rest = rest} never begins = record { done = done; fails = fails }
   where
     done : (v : A) (end : List Lexeme) → Done (λ u w. X (t ∷ u) w) F rest v end → Done X F ls v end
     done v end e = record {
@@ -33,7 +26,7 @@ leads_cut {A = A} {X = X} {F = F} {t = t} {ls = ls} {rest = rest} some begins = 
     }
       where
         only : (f other r : List Lexeme) (w : A) → first other ≡ first end → (t ∷ e.front) ++ other ≡ f ++ r → X f w → F (first r) → (w ≡ v) × (r ≡ other)
-        only [] other r w h eq x s = absurd (some w x)
+        only [] other r w h eq x s = absurd (never w x (subst F (sym (ap first eq)) s))
         only (l ∷ f) other r w h eq x s = e.only other f r w h (tails eq) (subst (λ z. X (z ∷ f) w) (sym (heads eq)) x) s
 
     fails : (end : List Lexeme) → Fails (λ u w. X (t ∷ u) w) F rest end → Fails X F ls end
@@ -47,8 +40,13 @@ leads_cut {A = A} {X = X} {F = F} {t = t} {ls = ls} {rest = rest} some begins = 
     }
       where
         dead : (f other r : List Lexeme) (w : A) → first other ≡ first end → (t ∷ e.front) ++ other ≡ f ++ r → X f w → F (first r) → ⊥
-        dead [] other r w h eq x s = some w x
+        dead [] other r w h eq x s = never w x (subst F (sym (ap first eq)) s)
         dead (l ∷ f) other r w h eq x s = e.dead other f r w h (tails eq) (subst (λ z. X (z ∷ f) w) (sym (heads eq)) x) s
+
+-- the same for a rule that always takes a lexeme
+pub leads_cut : {A : Type 0} {X : List Lexeme → A → Type 0} {F : Option Lexeme → Type 0} {t : Lexeme} {ls rest : List Lexeme}
+    → ((v : A) → X [] v → ⊥) → ls ≡ t ∷ rest → Leads X F ls (λ u v. X (t ∷ u) v) rest
+leads_cut never begins = leads_past (λ v x s. never v x) begins
 
 -- one sign that stands for an operator in this way
 pub data IsAs (meaning : Sign → Option BinOp) : List Lexeme → BinOp → Type 0 where
@@ -57,9 +55,6 @@ pub data IsAs (meaning : Sign → Option BinOp) : List Lexeme → BinOp → Type
 abbrev pub meant : (Sign → Option BinOp) → Option Sign → Option BinOp
 meant meaning None = None
 meant meaning (Some s) = meaning s
-
-pub some_same : {A : Type 0} {a b : A} → Some a ≡ Some b → a ≡ b
-some_same e = cc
 
 pub done_as : {meaning : Sign → Option BinOp} {ls rest : List Lexeme} {op : BinOp} → BeginsAs meaning ls op rest → Done (IsAs meaning) Anything ls op rest
 done_as {meaning = meaning} {ls = ls} {rest = rest} {op = op} b = record {
@@ -76,11 +71,6 @@ done_as {meaning = meaning} {ls = ls} {rest = rest} {op = op} b = record {
 pub leads_as : {B : Type 0} {meaning : Sign → Option BinOp} {K : BinOp → List Lexeme → B → Type 0} {F : Option Lexeme → Type 0} {ls rest : List Lexeme} {op : BinOp}
     → BeginsAs meaning ls op rest → Leads (Then (IsAs meaning) K) F ls (K op) rest
 leads_as b = leads_then (λ a v g r x s. tt) (done_as b)
-
--- the parts of a sequence
-pub parts_of : {A B : Type 0} {X : List Lexeme → A → Type 0} {K : A → List Lexeme → B → Type 0} {ls : List Lexeme} {b : B}
-    → Then X K ls b → (a : A) × (f g : List Lexeme) × (ls ≡ f ++ g) × X f a × K a g b
-parts_of (then {front = f} {back = g} {a = a} x k) = (a, f, g, refl, x, k)
 
 -- a part that is read, and that nothing goes on with, while something longer would do
 pub fails_refused : {A B : Type 0} {Y : List Lexeme → A → Type 0} {K : A → List Lexeme → B → Type 0} {G F : Option Lexeme → Type 0} {ls rest : List Lexeme} {a : A}
@@ -101,7 +91,7 @@ fails_refused {A = A} {B = B} {Y = Y} {K = K} {F = F} {ls = ls} {rest = rest} {a
   where
     dead : (other f r : List Lexeme) (w : B) → first other ≡ first rest → d.front ++ other ≡ f ++ r → Then Y K f w → F (first r) → ⊥
     dead other f r w h eq x s =
-        let p = parts_of x in
+        let p = parts x in
         let found = d.only other p.1 (p.2 ++ r) p.0 h (eq ∙ ap (λ u. u ++ r) p.3 ∙ append_assoc p.1 p.2 r) p.4 (follow p.0 w p.2 r p.5 s) in
         refused w p.2 r (subst (λ b. K b p.2 w) found.0 p.5) s
 

@@ -13,29 +13,15 @@ use Rattle.lq_parser.specs.declared.lexeme.Keyword.TheVariants.{Calloc as Calloc
 use Rattle.lq_parser.specs.Lexemes.{first, sign_at, word_at, name_at, number_at, operator, looseness}
 use Rattle.lq_parser.specs.Types.{IsType}
 use Rattle.lq_parser.specs.Expressions.{IsPrimary, number, variable, call, calloc, parens, AreArguments, no_arguments, arguments, AreMore, no_more, more, IsTail, no_tail, index, arrow, dot, IsPostfix, primary, IsUnary, postfix, negative, not, deref, IsBinary, operand, joined, IsChain, no_chain, chain}
-use Rattle.lq_parser.specs.Sequence.{Then, then, Makes, makes, Nothing, nothing, IsOne, one, IsWord, IsSign, IsName, a_name, IsEnclosed}
+use Rattle.lq_parser.specs.Sequence.{Then, then, Makes, makes, Nothing, nothing, IsOne, one, IsWord, IsSign, IsName, held, IsEnclosed}
 use Rattle.lq_parser.specs.Outcome.{Done, Fails, Begins, BeginsName, Lacks, LacksName, BeginsOperator, LacksOperator, binds, binds_as, binds_sign, Ends, Anything, NoParen, NoStar}
-use Rattle.lq_parser.proofs.Apart.{keywords, signs, names, numbers}
+use Rattle.lq_parser.proofs.Followers.{ends_sign, sign_ends, binds_operator}
+use Rattle.lq_parser.proofs.Apart.{keywords, signs, names, numbers, tails}
 use Rattle.lq_parser.proofs.Leads.{Leads, leads_choose, leads_then, leads_one, leads_on, leads_makes, fails_then, fails_makes, done_nothing, stuck_one, Completes, complete_one, complete_then, complete_makes}
-use Rattle.lq_parser.proofs.Cuts.{tails, done_under, fails_under}
-use Rattle.lq_parser.proofs.ExpressionCuts.{leads_cut, then_first, makes_first}
+use Rattle.lq_parser.proofs.Cuts.{done_under, fails_under, leads_cut, first_then, first_makes}
 use Rattle.lq_parser.proofs.Firsts.{CanBegin, by_name, by_number, by_calloc, by_paren, by_minus, by_not, by_star, none_begins, primary_begins, binary_begins, begins_on, complete_expression, complete_tail, complete_chain, complete_type}
 
 -- ---- What follows
-
-pub ends_sign : {n : ℕ} {o : Option Lexeme} {s : Sign} {at : Place} → o ≡ Some (sign_at s at) → Ends n o → binds_sign s ≤ n → ⊥
-ends_sign {n = n} {o = o} {s = s} e ends low = let b : binds o ≡ binds_sign s = ap binds e in omega arith
-
--- a sign that is no operator ends an expression
-pub sign_ends : {n : ℕ} {o : Option Lexeme} {s : Sign} {at : Place} → o ≡ Some (sign_at s at) → n < binds_sign s → Ends n o
-sign_ends {n = n} {o = o} {s = s} e high = let b : binds o ≡ binds_sign s = ap binds e in omega arith
-
-pub binds_operator : (s : Sign) (op : BinOp) → operator s ≡ Some op → binds_sign s ≡ looseness op
-binds_operator LeftParen op e = absurd cc
-binds_operator LeftBracket op e = absurd cc
-binds_operator ArrowSign op e = absurd cc
-binds_operator DotSign op e = absurd cc
-binds_operator s op e = ap binds_as e
 
 pub chain_follow : {n : ℕ} (a b : Expr) (g r : List Lexeme) → IsChain (suc n) a g b → Ends (suc n) (first r) → Ends n (first (g ++ r))
 chain_follow a b g r no_chain ends = omega arith
@@ -210,7 +196,7 @@ abbrev pub ClosedBy : Sign → List Lexeme → Expr → Type 0
 ClosedBy bracket = Then (λ u v. IsBinary u 6 v) (λ e. Makes (IsSign bracket) (λ _. e))
 
 pub closed_follow : (bracket : Sign) → 6 < binds_sign bracket → (a b : Expr) (g r : List Lexeme) → Makes (IsSign bracket) (λ _. a) g b → Anything (first r) → Ends 6 (first (g ++ r))
-closed_follow bracket high a b g r x s = sign_ends (makes_first r x).1 high
+closed_follow bracket high a b g r x s = sign_ends (first_makes x r).1 high
 
 pub leads_closed : (bracket : Sign) → 6 < binds_sign bracket → {ls rest : List Lexeme} {e : Expr} → Done (λ u v. IsBinary u 6 v) (Ends 6) ls e rest
     → Leads (ClosedBy bracket) Anything ls (Makes (IsSign bracket) (λ _. e)) rest
@@ -233,10 +219,10 @@ index_into {before = before} u v (then (one {at = at}) (then {back = t} (then {f
     subst (λ k. IsTail before (sign_at LeftBracket at ∷ k) v) (sym (append_assoc i (sign_at RightBracket at' ∷ []) t)) (index at' x y)
 
 arrow_into : {before : Expr} (u : List Lexeme) (v : Expr) → Arrowed before u v → IsTail before u v
-arrow_into u v (then one (then (makes a_name) t)) = arrow t
+arrow_into u v (then one (then (makes held) t)) = arrow t
 
 dot_into : {before : Expr} (u : List Lexeme) (v : Expr) → Dotted before u v → IsTail before u v
-dot_into u v (then one (then (makes a_name) t)) = dot t
+dot_into u v (then one (then (makes held) t)) = dot t
 
 index_from : {before : Expr} (u r : List Lexeme) (v : Expr) (at : Place) → first (u ++ r) ≡ Some (sign_at LeftBracket at) → Ends 0 (first r) → IsTail before u v → Indexed before u v
 index_from u r v at h ends no_tail = absurd (ends_sign h ends (omega arith))
@@ -248,14 +234,14 @@ index_from u r v at h ends (dot t) = absurd (cc (signs h))
 arrow_from : {before : Expr} (u r : List Lexeme) (v : Expr) (at : Place) → first (u ++ r) ≡ Some (sign_at ArrowSign at) → Ends 0 (first r) → IsTail before u v → Arrowed before u v
 arrow_from u r v at h ends no_tail = absurd (ends_sign h ends (omega arith))
 arrow_from u r v at h ends (index closing i t) = absurd (cc (signs h))
-arrow_from u r v at h ends (arrow t) = then one (then (makes a_name) t)
+arrow_from u r v at h ends (arrow t) = then one (then (makes held) t)
 arrow_from u r v at h ends (dot t) = absurd (cc (signs h))
 
 dot_from : {before : Expr} (u r : List Lexeme) (v : Expr) (at : Place) → first (u ++ r) ≡ Some (sign_at DotSign at) → Ends 0 (first r) → IsTail before u v → Dotted before u v
 dot_from u r v at h ends no_tail = absurd (ends_sign h ends (omega arith))
 dot_from u r v at h ends (index closing i t) = absurd (cc (signs h))
 dot_from u r v at h ends (arrow t) = absurd (cc (signs h))
-dot_from u r v at h ends (dot t) = then one (then (makes a_name) t)
+dot_from u r v at h ends (dot t) = then one (then (makes held) t)
 
 leads_bracket : {before : Expr} {ls rest : List Lexeme} → Begins (sign_at LeftBracket) ls rest
     → Leads (IsTail before) (Ends 0) ls (Then (ClosedBy RightBracket) (λ at. IsTail (Index before at))) rest
@@ -340,10 +326,10 @@ never_nothing : (v : Expr) → IsPrimary [] v → ⊥
 never_nothing v x = none_begins (primary_begins x)
 
 pub leads_named : {text : List ℕ} {ls rest : List Lexeme} → (b : BeginsName ls text rest) → Leads IsPrimary NoParen ls (λ u v. IsPrimary (name_at text b.0 ∷ u) v) rest
-leads_named b = leads_cut never_nothing b
+leads_named b = leads_cut never_nothing b.1
 
 pub leads_allocated : {ls rest : List Lexeme} → (b : Begins (word_at CallocWord) ls rest) → Leads IsPrimary NoParen ls (λ u v. IsPrimary (word_at CallocWord b.0 ∷ u) v) rest
-leads_allocated b = leads_cut never_nothing b
+leads_allocated b = leads_cut never_nothing b.1
 
 -- ---- Behind a name
 
@@ -438,13 +424,13 @@ pub leads_allocation : {at : Place} {ls : List Lexeme} → Leads (λ u v. IsPrim
 leads_allocation {at = at} = leads_choose (allocated_into at) (λ u r v h x s. allocated_from at u refl x)
 
 item_first : {g : List Lexeme} {b : CType} (r : List Lexeme) → ItemType g b → (at : Place) × (first (g ++ r) ≡ Some (sign_at Comma at))
-item_first r x = then_first r x
+item_first r x = first_then x r
 
 count_follow : (a b : Expr) (g r : List Lexeme) → Makes ItemType (Calloc a) g b → Anything (first r) → Ends 6 (first (g ++ r))
 count_follow a b g r (makes x) s = sign_ends (item_first r x).1 (omega arith)
 
 type_follow : (a b : CType) (g r : List Lexeme) → TypeEnd a g b → Anything (first r) → NoStar (first (g ++ r))
-type_follow a b g r x s = λ at e. cc (signs (sym (then_first r x).1 ∙ e))
+type_follow a b g r x s = λ at e. cc (signs (sym (first_then x r).1 ∙ e))
 
 pub complete_end : (type : CType) → Completes (TypeEnd type)
 complete_end type = complete_then complete_one (λ _. complete_makes complete_one)

@@ -17,12 +17,12 @@ use Rattle.lq_parser.specs.Lexemes.{first, sign_at, word_at, name_at}
 use Rattle.lq_parser.specs.Types.{IsType}
 use Rattle.lq_parser.specs.Expressions.{IsExpression}
 use Rattle.lq_parser.specs.Statements.{IsOptional, none, some, IsInitial, initial, IsDeclaration, declaration, IsSimple, IsPart, declaration_part, simple_part, IsFlat, empty, part, return, print}
-use Rattle.lq_parser.specs.Sequence.{Then, then, Makes, makes, Nothing, nothing, IsOne, one, IsSign, IsName, a_name}
+use Rattle.lq_parser.specs.Sequence.{Then, then, Makes, makes, Nothing, nothing, IsOne, one, IsSign, IsName, held}
 use Rattle.lq_parser.specs.Outcome.{Begins, Lacks, Anything, Ends, EndsPart, NoStar}
-use Rattle.lq_parser.proofs.Apart.{signs, keywords}
+use Rattle.lq_parser.proofs.Apart.{signs, keywords, tails}
 use Rattle.lq_parser.proofs.Leads.{Leads, Completes, leads_choose, complete_one, complete_then, complete_makes, complete_name}
 use Rattle.lq_parser.proofs.Firsts.{CanBegin, by_name, by_number, by_calloc, by_paren, by_minus, by_not, by_star, CanBeginType, by_int, by_struct, binary_begins, type_begins, begins_on, type_begins_on, none_begins_type}
-use Rattle.lq_parser.proofs.Cuts.{tails, first_makes, first_then}
+use Rattle.lq_parser.proofs.Cuts.{first_makes, first_then}
 use Rattle.lq_parser.proofs.Followers.{part_not, semicolon_ends, paren_ends}
 use Rattle.lq_parser.proofs.PartRules.{simple_begins}
 
@@ -130,10 +130,10 @@ abbrev pub Declared : List Lexeme → StmtKind → Type 0
 Declared = Then IsType (λ type. Then IsName (λ text. Makes (IsOptional IsInitial) (Local type text)))
 
 declared_into : (u : List Lexeme) (v : StmtKind) → Declared u v → IsDeclaration u v
-declared_into u v (then x (then a_name (makes i))) = declaration _ x i
+declared_into u v (then x (then held (makes i))) = declaration _ x i
 
 declared_from : (u : List Lexeme) (v : StmtKind) → IsDeclaration u v → Declared u v
-declared_from u v (declaration at x i) = then x (then a_name (makes i))
+declared_from u v (declaration at x i) = then x (then held (makes i))
 
 pub leads_declared : {F : Option Lexeme → Type 0} {ls : List Lexeme} → Leads IsDeclaration F ls Declared ls
 leads_declared = leads_choose declared_into (λ u r v h x s. declared_from u v x)
@@ -141,7 +141,7 @@ leads_declared = leads_choose declared_into (λ u r v h x s. declared_from u v x
 -- no `*` follows a type
 pub type_follows : (type : CType) (b : StmtKind) (g r : List Lexeme)
     → Then IsName (λ text. Makes (IsOptional IsInitial) (Local type text)) g b → NoStar (first (g ++ r))
-type_follows type b g r (then a_name k) at h = cc (signs h)
+type_follows type b g r (then held k) at h = cc (signs h)
 
 pub complete_initial : Completes (IsOptional IsInitial)
 complete_initial = ([], None, none)

@@ -14,9 +14,8 @@ use Rattle.lq_parser.specs.Lexemes.{first, sign_at, word_at}
 use Rattle.lq_parser.specs.Statements.{arm_of, IsBody, block_body, flat_body, IsGuarded, AreElses, no_else, else_body, else_if, IsStatement, block, flat, if, while, for, cobegin, foreach, IsBranch, branch, AreBranches, no_branch, branches}
 use Rattle.lq_parser.specs.Sequence.{Then, then, Makes, makes, Nothing, nothing, one, IsSign, IsWord}
 use Rattle.lq_parser.specs.Outcome.{Begins, Lacks, NoElse}
-use Rattle.lq_parser.proofs.Apart.{signs, keywords}
+use Rattle.lq_parser.proofs.Apart.{signs, keywords, tails}
 use Rattle.lq_parser.proofs.Leads.{Leads, Completes, leads_choose, complete_one, complete_then, complete_makes}
-use Rattle.lq_parser.proofs.Cuts.{tails}
 use Rattle.lq_parser.proofs.StatementRules.{block_begins, not_flat, complete_branch}
 
 -- what stands behind arms that were read
@@ -45,7 +44,7 @@ the_if_from u eq (if x y) = rw (← tails eq) (then x (elses y))
 the_if_from u eq (while x) = absurd (cc (keywords (ap first eq)))
 the_if_from u eq (for end end' closing i c s b) = absurd (cc (keywords (ap first eq)))
 the_if_from u eq (cobegin closing a b m) = absurd (cc (keywords (ap first eq)))
-the_if_from u eq (foreach comma closing l h b) = absurd (cc (keywords (ap first eq)))
+the_if_from u eq (foreach comma closing l h s b) = absurd (cc (keywords (ap first eq)))
 
 pub leads_the_if : {at : Place} {F : Option Lexeme → Type 0} {ls : List Lexeme} → Leads (λ u v. IsStatement (word_at IfWord at ∷ u) v) F ls Conditional ls
 leads_the_if {at = at} = leads_choose (the_if_into at) (λ u r v h x s. the_if_from u refl x)
@@ -79,7 +78,7 @@ pub leads_else : {ls rest : List Lexeme} (read : List Arm) → Begins (word_at E
 leads_else read b = leads_choose (else_into read) (λ u r v h x s. else_from read u r v b.0 (h ∙ ap first b.1) s x)
 
 -- no body begins with `if`
-body_no_if : {u : List Lexeme} {v : Stmt} (r : List Lexeme) (at : Place) → first (u ++ r) ≡ Some (word_at IfWord at) → IsBody u v → ⊥
+pub body_no_if : {u : List Lexeme} {v : Stmt} (r : List Lexeme) (at : Place) → first (u ++ r) ≡ Some (word_at IfWord at) → IsBody u v → ⊥
 body_no_if r at h (block_body x) = let b = block_begins x r in absurd (cc (signs (sym b.1 ∙ h)))
 body_no_if r at h (flat_body x) = not_flat r {b = Some (word_at IfWord at)} refl refl refl h x
 
@@ -142,7 +141,7 @@ the_cobegin_from u eq (if x y) = absurd (cc (keywords (ap first eq)))
 the_cobegin_from u eq (while x) = absurd (cc (keywords (ap first eq)))
 the_cobegin_from u eq (for end end' closing i c s b) = absurd (cc (keywords (ap first eq)))
 the_cobegin_from u eq (cobegin closing a b m) = rw (← tails eq) (then one (then a (then b (then m (makes one)))))
-the_cobegin_from u eq (foreach comma closing l h b) = absurd (cc (keywords (ap first eq)))
+the_cobegin_from u eq (foreach comma closing l h s b) = absurd (cc (keywords (ap first eq)))
 
 pub leads_the_cobegin : {at : Place} {F : Option Lexeme → Type 0} {ls : List Lexeme} → Leads (λ u v. IsStatement (word_at CobeginWord at ∷ u) v) F ls Branched ls
 leads_the_cobegin {at = at} = leads_choose (the_cobegin_into at) (λ u r v h x s. the_cobegin_from u refl x)

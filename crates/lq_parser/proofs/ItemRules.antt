@@ -18,11 +18,11 @@ use Rattle.lq_parser.specs.Statements.{braces, no_statement}
 use Rattle.lq_parser.specs.Programs.{no_params, IsResult, void_result, type_result, IsFunc, func, fields, IsStruct, struct as struct_def, IsProgram, nothing, with_struct, with_func}
 use Rattle.lq_parser.specs.Sequence.{Then, then, Makes, makes, one, AreClosedFields}
 use Rattle.lq_parser.specs.Outcome.{Done, Fails, Anything, AtEnd, BeginsStruct, LacksStruct, place_of_first}
-use Rattle.lq_parser.proofs.Apart.{keywords, signs, names}
+use Rattle.lq_parser.proofs.Cuts.{leads_past}
+use Rattle.lq_parser.proofs.Apart.{keywords, signs, names, heads, tails, some_same}
 use Rattle.lq_parser.proofs.Leads.{Leads, leads_choose, leads_on, leads_then, Completes, anywhere}
 use Rattle.lq_parser.proofs.ProgramRules.{field_groups}
-use Rattle.lq_parser.proofs.Cuts.{heads, tails}
-use Rattle.lq_parser.proofs.Choices.{begins_with, empty_front, is_empty, leads_behind}
+use Rattle.lq_parser.proofs.Choices.{begins_with, empty_front, is_empty}
 
 -- these structs and functions were read, and more may come
 abbrev pub added : List StructDef → List Func → Program → Program
@@ -121,9 +121,6 @@ struct_from structs funcs at name opening text u t v e (makes (with_struct {s = 
     let behind : q.behind ++ m ≡ u = tails (tails (tails split)) in
     finish q.behind m q.members more q.closed p behind value
   where
-    some_same : {A : Type 0} {a b : A} → Some a ≡ Some b → a ≡ b
-    some_same e = cc
-
     finish : (g m : List Lexeme) (members : List Param) (more : Program) → AreClosedFields g members → IsProgram m more → g ++ m ≡ u → single ≡ record { at = at; name = text; fields = members }
         → StructRest structs funcs at text u (record { structs = structs ++ (single ∷ more.structs); funcs = funcs ++ more.funcs })
     finish g m members more c p behind value =
@@ -139,9 +136,9 @@ not_end t h = cc
 pub leads_struct_rest : (structs : List StructDef) (funcs : List Func) {ls rest : List Lexeme} {text : List ℕ} → (b : BeginsStruct ls text rest)
     → Leads (Adding structs funcs) AtEnd ls (StructRest structs funcs b.0 text) rest
 leads_struct_rest structs funcs {rest = rest} {text = text} b =
-    leads_on (leads_behind {t = word_at Struct b.0} (not_end _) b.3)
-    (leads_on (leads_behind {t = name_at text b.1} (not_end _) refl)
-    (leads_on (leads_behind {t = sign_at LeftBrace b.2} (not_end _) refl)
+    leads_on (leads_past {t = word_at Struct b.0} (λ v x s. not_end _ s) b.3)
+    (leads_on (leads_past {t = name_at text b.1} (λ v x s. not_end _ s) refl)
+    (leads_on (leads_past {t = sign_at LeftBrace b.2} (λ v x s. not_end _ s) refl)
     (leads_choose (struct_into structs funcs b.0 b.1 b.2 text) (λ u r v h x s. struct_from structs funcs b.0 b.1 b.2 text u _ v refl x))))
 
 pub complete_program : (structs : List StructDef) (funcs : List Func) → Completes (Adding structs funcs)

@@ -1,14 +1,13 @@
 -- What is read so far leads to what is left: how outcomes of the parts of a rule make the outcome of the rule.
 use Rattle.std.proofs.Common.{sym, ap, ◌∙◌, subst, refl}
-use Rattle.std.specs.Prelude.{◌≡◌, ℕ, Option, None, Some, List, [], ◌∷◌, ◌++◌}
+use Rattle.std.specs.Prelude.{◌≡◌, ℕ, ℤ, pos, Option, None, Some, List, [], ◌∷◌, ◌++◌}
 use Rattle.std.proofs.lemmas.List.{append_assoc}
 use Rattle.lq_tree.specs.declared.place.Place.{Place}
 use Rattle.lq_parser.specs.declared.lexeme.Lexeme.{Lexeme}
-use Rattle.lq_parser.specs.declared.lexeme.Symbol.{Symbol}
-use Rattle.lq_parser.specs.declared.lexeme.Symbol.TheVariants.{Name}
-use Rattle.lq_parser.specs.Lexemes.{first, name_at}
-use Rattle.lq_parser.specs.Sequence.{Then, then, Makes, makes, Nothing, nothing, IsOne, one, IsName, a_name}
+use Rattle.lq_parser.specs.Lexemes.{first, name_at, number_at}
+use Rattle.lq_parser.specs.Sequence.{Then, then, Makes, makes, Nothing, nothing, IsOne, one, Holds, held, IsName, IsNumber}
 use Rattle.lq_parser.specs.Outcome.{Done, Fails, Begins, Lacks, BeginsName, LacksName, Anything}
+use Rattle.lq_parser.proofs.Apart.{heads, tails, some_same, names, numbers}
 
 abbrev pub Rule : Type 0 → Type 1
 Rule A = List Lexeme → A → Type 0
@@ -27,7 +26,7 @@ first_agrees [] other rest h = h
 first_agrees (l ∷ x) other rest h = refl
 
 -- the parts of a sequence
-parts : {A B : Type 0} {X : List Lexeme → A → Type 0} {K : A → List Lexeme → B → Type 0} {ls : List Lexeme} {b : B}
+pub parts : {A B : Type 0} {X : List Lexeme → A → Type 0} {K : A → List Lexeme → B → Type 0} {ls : List Lexeme} {b : B}
     → Then X K ls b → (a : A) × (f g : List Lexeme) × (ls ≡ f ++ g) × X f a × K a g b
 parts (then {front = f} {back = g} {a = a} x k) = (a, f, g, refl, x, k)
 
@@ -78,7 +77,7 @@ pub complete_one : {make : Place → Lexeme} → Completes (IsOne make)
 complete_one {make = make} = (make anywhere ∷ [], tt, one)
 
 pub complete_name : Completes IsName
-complete_name = (name_at [] anywhere ∷ [], [], a_name)
+complete_name = (name_at [] anywhere ∷ [], [], held)
 
 pub complete_then : {A B : Type 0} {X : List Lexeme → A → Type 0} {K : A → List Lexeme → B → Type 0} → Completes X → ((a : A) → Completes (K a)) → Completes (Then X K)
 complete_then x k = (x.0 ++ (k x.1).0, (k x.1).1, then x.2 (k x.1).2)
@@ -141,10 +140,7 @@ done_one {make = make} {ls = ls} {rest = rest} b = record {
 }
   where
     only : (f r : List Lexeme) (v : Unit {0}) (other : List Lexeme) → make b.0 ∷ other ≡ f ++ r → IsOne make f v → (v ≡ tt) × (r ≡ other)
-    only f r v other eq (one {at = at}) = (refl, tails eq)
-      where
-        tails : {a c : Lexeme} {u w : List Lexeme} → a ∷ u ≡ c ∷ w → w ≡ u
-        tails e = cc
+    only f r v other eq one = (refl, sym (tails eq))
 
 pub leads_one : {B : Type 0} {make : Place → Lexeme} {K : Unit {0} → List Lexeme → B → Type 0} {F : Option Lexeme → Type 0} {ls rest : List Lexeme}
     → Begins make ls rest → Leads (Then (IsOne make) K) F ls (K tt) rest
@@ -168,50 +164,54 @@ pub stuck_one : {B : Type 0} {make : Place → Lexeme} {K : Unit {0} → List Le
     → Completes (K tt) → Lacks make ls → Fails (Then (IsOne make) K) F ls ls
 stuck_one complete lacks = fails_then (λ a v g r x s. tt) (λ a. complete) (fails_one lacks)
 
--- the name that a lexeme is
-abbrev text_in : Option Lexeme → List ℕ
-text_in None = []
-text_in (Some l) = text_of l.symbol
-  where
-    text_of : Symbol → List ℕ
-    text_of (Name text) = text
-    text_of _ = []
-
--- a name that is there, or not
-pub done_name : {ls rest : List Lexeme} {text : List ℕ} → BeginsName ls text rest → Done IsName Anything ls text rest
-done_name {ls = ls} {rest = rest} {text = text} b = record {
-  front = name_at text b.0 ∷ [];
+-- one lexeme that holds a value and is there
+done_held : {A : Type 0} {make : A → Place → Lexeme} {ls rest : List Lexeme} {value : A}
+    → ((v w : A) (at at' : Place) → make v at ≡ make w at' → v ≡ w) → Begins (make value) ls rest → Done (Holds make) Anything ls value rest
+done_held {A = A} {make = make} {ls = ls} {rest = rest} {value = value} same b = record {
+  front = make value b.0 ∷ [];
   split = b.1;
-  spelled = a_name;
+  spelled = held;
   only = λ other f r v h eq x s. only f r v other eq x;
 }
   where
-    only : (f r : List Lexeme) (v : List ℕ) (other : List Lexeme) → name_at text b.0 ∷ other ≡ f ++ r → IsName f v → (v ≡ text) × (r ≡ other)
-    only f r v other eq (a_name {at = at} {text = t}) = (ap text_in (ap first (sym eq)), tails eq)
-      where
-        tails : {a c : Lexeme} {u w : List Lexeme} → a ∷ u ≡ c ∷ w → w ≡ u
-        tails e = cc
+    only : (f r : List Lexeme) (v : A) (other : List Lexeme) → make value b.0 ∷ other ≡ f ++ r → Holds make f v → (v ≡ value) × (r ≡ other)
+    only f r v other eq (held {at = at} {value = w}) = (same w value at b.0 (heads (sym eq)), tails (sym eq))
+
+-- one lexeme that holds a value and is not there
+fails_held : {A : Type 0} {make : A → Place → Lexeme} {ls : List Lexeme} (value : A) → ((v : A) → Lacks (make v) ls) → Fails (Holds make) Anything ls ls
+fails_held {A = A} {make = make} {ls = ls} value lacks = record {
+  front = [];
+  split = refl;
+  more = make value anywhere ∷ [];
+  value = value;
+  viable = held;
+  dead = λ other f r v h eq x s. dead f r v other h eq x;
+}
+  where
+    dead : (f r : List Lexeme) (v : A) (other : List Lexeme) → first other ≡ first ls → other ≡ f ++ r → Holds make f v → ⊥
+    dead f r v other h eq (held {at = at} {value = w}) = lacks w at (sym h ∙ ap first eq)
+
+-- a name that is there, or not
+pub done_name : {ls rest : List Lexeme} {text : List ℕ} → BeginsName ls text rest → Done IsName Anything ls text rest
+done_name b = done_held (λ v w at at' e. some_same (names (ap Some e))) b
 
 pub leads_name : {B : Type 0} {K : List ℕ → List Lexeme → B → Type 0} {F : Option Lexeme → Type 0} {ls rest : List Lexeme} {text : List ℕ}
     → BeginsName ls text rest → Leads (Then IsName K) F ls (K text) rest
 leads_name b = leads_then (λ a v g r x s. tt) (done_name b)
 
 pub fails_name : {ls : List Lexeme} → LacksName ls → Fails IsName Anything ls ls
-fails_name {ls = ls} lacks = record {
-  front = [];
-  split = refl;
-  more = name_at [] anywhere ∷ [];
-  value = [];
-  viable = a_name;
-  dead = λ other f r v h eq x s. dead f r v other h eq x;
-}
-  where
-    dead : (f r : List Lexeme) (v : List ℕ) (other : List Lexeme) → first other ≡ first ls → other ≡ f ++ r → IsName f v → ⊥
-    dead f r v other h eq (a_name {at = at} {text = t}) = lacks t at (sym h ∙ ap first eq)
+fails_name lacks = fails_held [] lacks
 
 pub stuck_name : {B : Type 0} {K : List ℕ → List Lexeme → B → Type 0} {F : Option Lexeme → Type 0} {ls : List Lexeme}
     → ((text : List ℕ) → Completes (K text)) → LacksName ls → Fails (Then IsName K) F ls ls
 stuck_name complete lacks = fails_then (λ a v g r x s. tt) complete (fails_name lacks)
+
+-- a number that is there, or not
+pub done_number : {ls rest : List Lexeme} {value : ℤ} → Begins (number_at value) ls rest → Done IsNumber Anything ls value rest
+done_number b = done_held (λ v w at at' e. some_same (numbers (ap Some e))) b
+
+pub fails_number : {ls : List Lexeme} → ((value : ℤ) → Lacks (number_at value) ls) → Fails IsNumber Anything ls ls
+fails_number lacks = fails_held (pos 0) lacks
 
 -- the last part of a rule
 pub leads_makes : {A B : Type 0} {X : List Lexeme → A → Type 0} {f : A → B} {F : Option Lexeme → Type 0} {ls rest : List Lexeme} {a : A}

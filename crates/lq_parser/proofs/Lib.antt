@@ -5,7 +5,6 @@ pub mod Cuts
 pub mod Onward
 pub mod Firsts
 pub mod TypeRules
-pub mod ExpressionCuts
 pub mod ExpressionRules
 pub mod Followers
 pub mod FlatRules

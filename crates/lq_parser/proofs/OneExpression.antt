@@ -1,6 +1,6 @@
 -- Lexemes spell at most one expression, where what follows it may.
 use Rattle.std.proofs.Common.{sym, ap, ◌∙◌, refl, arith}
-use Rattle.std.specs.Prelude.{◌≡◌, ◌<◌, ◌≤◌, ℕ, suc, Bool, true, false, Option, None, Some, List, [], ◌∷◌, ◌++◌}
+use Rattle.std.specs.Prelude.{◌≡◌, ◌<◌, ℕ, Bool, true, false, Option, None, Some, List, [], ◌∷◌, ◌++◌}
 use Rattle.std.proofs.lemmas.List.{append_assoc}
 use Rattle.lq_tree.specs.declared.place.Place.{Place}
 use Rattle.lq_tree.specs.declared.expr.BinOp.{BinOp}
@@ -11,16 +11,13 @@ use Rattle.lq_parser.specs.declared.lexeme.Sign.TheVariants.{LeftParen, RightPar
 use Rattle.lq_parser.specs.declared.lexeme.Keyword.TheVariants.{Calloc as CallocWord, Sizeof}
 use Rattle.lq_parser.specs.declared.lexeme.Symbol.{Symbol}
 use Rattle.lq_parser.specs.declared.lexeme.Symbol.TheVariants.{Name, Number, Sign as SignSymbol, Keyword as KeywordSymbol}
-use Rattle.lq_parser.specs.Lexemes.{first, sign_at, word_at, operator, looseness}
+use Rattle.lq_parser.specs.Lexemes.{first, sign_at, word_at, operator}
 use Rattle.lq_parser.specs.Expressions.{IsPrimary, number, variable, call, calloc, parens, AreArguments, no_arguments, arguments, AreMore, no_more, more, IsTail, no_tail, index, arrow, dot, IsPostfix, primary, IsUnary, postfix, negative, not, deref, IsBinary, operand, joined, IsChain, no_chain, chain}
-use Rattle.lq_parser.specs.Outcome.{NoParen, Ends, binds, binds_as, binds_sign, binds_symbol}
-use Rattle.lq_parser.proofs.Apart.{symbol_of, signs}
-use Rattle.lq_parser.proofs.Cuts.{tails}
-use Rattle.lq_parser.proofs.OneType.{symbols, same_text, same_number, both, shift, differs, one_type}
-
--- a lexeme of this make comes next
-abbrev pub Heads : (Place → Lexeme) → Option Lexeme → Type 0
-Heads make next = (at : Place) × (next ≡ Some (make at))
+use Rattle.lq_parser.specs.Outcome.{NoParen, Ends, binds_symbol}
+use Rattle.lq_parser.proofs.ExpressionRules.{chain_follow, tail_follow}
+use Rattle.lq_parser.proofs.Followers.{Heads, ends_sign, sign_ends, binds_operator}
+use Rattle.lq_parser.proofs.Apart.{symbol_of, signs, tails, symbols, same_text, same_number}
+use Rattle.lq_parser.proofs.OneType.{both, shift, differs, one_type}
 
 -- ---- what expressions begin with
 
@@ -78,30 +75,6 @@ expression_first (operand x) r = unary_first x r
 expression_first (joined {l = l} {c = c} x y) r = ap (λ w. begins_expression (first w)) (append_assoc l c r) ∙ expression_first x (c ++ r)
 
 -- ---- what follows them
-
-pub ends_sign : {n : ℕ} {next : Option Lexeme} {s : Sign} {at : Place} → next ≡ Some (sign_at s at) → Ends n next → binds_sign s ≤ n → ⊥
-ends_sign {n = n} {next = next} {s = s} e ends low = let b : binds next ≡ binds_sign s = ap binds e in omega arith
-
-pub sign_ends : {n : ℕ} {next : Option Lexeme} {s : Sign} {at : Place} → next ≡ Some (sign_at s at) → n < binds_sign s → Ends n next
-sign_ends {n = n} {next = next} {s = s} e high = let b : binds next ≡ binds_sign s = ap binds e in omega arith
-
--- an operator binds as its sign
-binds_operator : (s : Sign) (op : BinOp) → operator s ≡ Some op → binds_sign s ≡ looseness op
-binds_operator LeftParen op e = absurd cc
-binds_operator LeftBracket op e = absurd cc
-binds_operator ArrowSign op e = absurd cc
-binds_operator DotSign op e = absurd cc
-binds_operator s op e = ap binds_as e
-
-chain_ends : {n : ℕ} {a b : Expr} {g : List Lexeme} → IsChain (suc n) a g b → (r : List Lexeme) → Ends (suc n) (first r) → Ends n (first (g ++ r))
-chain_ends no_chain r ends = omega arith
-chain_ends (chain {s = s} {op = op} e l x y) r ends = let h = binds_operator s op e in omega arith
-
-pub tail_ends : {a b : Expr} {g : List Lexeme} → IsTail a g b → (r : List Lexeme) → Ends 0 (first r) → NoParen (first (g ++ r))
-tail_ends no_tail r ends = λ at e. ends_sign e ends (omega arith)
-tail_ends (index closing i t) r ends = λ at e. cc (signs e)
-tail_ends (arrow t) r ends = λ at e. cc (signs e)
-tail_ends (dot t) r ends = λ at e. cc (signs e)
 
 more_ends : {m : List Lexeme} {a : List Expr} → AreMore m a → (r : List Lexeme) → Heads (sign_at RightParen) (first r) → Ends 6 (first (m ++ r))
 more_ends no_more r (at, e) = sign_ends e (omega arith)
@@ -216,7 +189,7 @@ mutual
 
   pub one_postfix : {u u' : List Lexeme} {v v' : Expr} → IsPostfix u v → IsPostfix u' v' → (r r' : List Lexeme) → Ends 0 (first r) → Ends 0 (first r') → u ++ r ≡ u' ++ r' → (v ≡ v') × (r ≡ r')
   one_postfix (primary {p = p} {t = t} x y) (primary {p = p'} {t = t'} x' y') r r' f f' e =
-      let q = one_primary x x' (t ++ r) (t' ++ r') (tail_ends y r f) (tail_ends y' r' f') (shift p t r p' t' r' e) in
+      let q = one_primary x x' (t ++ r) (t' ++ r') (tail_follow _ _ t r y f) (tail_follow _ _ t' r' y' f') (shift p t r p' t' r' e) in
       one_tail y y' r r' f f' q.0 q.1
 
   pub one_unary : {u u' : List Lexeme} {v v' : Expr} → IsUnary u v → IsUnary u' v' → (r r' : List Lexeme) → Ends 0 (first r) → Ends 0 (first r') → u ++ r ≡ u' ++ r' → (v ≡ v') × (r ≡ r')
@@ -229,13 +202,13 @@ mutual
   pub one_binary : {u u' : List Lexeme} {n : ℕ} {v v' : Expr} → IsBinary u n v → IsBinary u' n v' → (r r' : List Lexeme) → Ends n (first r) → Ends n (first r') → u ++ r ≡ u' ++ r' → (v ≡ v') × (r ≡ r')
   one_binary (operand x) (operand y) r r' f f' e = one_unary x y r r' f f' e
   one_binary (joined {l = l} {c = c} x y) (joined {l = l'} {c = c'} x' y') r r' f f' e =
-      let p = one_binary x x' (c ++ r) (c' ++ r') (chain_ends y r f) (chain_ends y' r' f') (shift l c r l' c' r' e) in
+      let p = one_binary x x' (c ++ r) (c' ++ r') (chain_follow _ _ c r y f) (chain_follow _ _ c' r' y' f') (shift l c r l' c' r' e) in
       one_chain y y' r r' f f' p.0 p.1
 
   pub one_chain : {n : ℕ} {u u' : List Lexeme} {b b' v v' : Expr} → IsChain n b u v → IsChain n b' u' v' → (r r' : List Lexeme) → Ends n (first r) → Ends n (first r') → b ≡ b' → u ++ r ≡ u' ++ r' → (v ≡ v') × (r ≡ r')
   one_chain no_chain no_chain r r' f f' b e = (b, e)
   one_chain (chain {r = o} {c = c} h k x y) (chain {r = o'} {c = c'} h' k' x' y') r r' f f' b e =
-      let p = one_binary x x' (c ++ r) (c' ++ r') (chain_ends y r f) (chain_ends y' r' f') (shift o c r o' c' r' (tails e)) in
+      let p = one_binary x x' (c ++ r) (c' ++ r') (chain_follow _ _ c r y f) (chain_follow _ _ c' r' y' f') (shift o c r o' c' r' (tails e)) in
       one_chain y y' r r' f f' (joined_same (same_operator e h h') b p.0) p.1
   one_chain no_chain (chain {s = s} {op = op} h k x y) r r' f f' b e = absurd (ends_sign (ap first e) f (let q = binds_operator s op h in omega arith))
   one_chain (chain {s = s} {op = op} h k x y) no_chain r r' f f' b e = absurd (ends_sign (sym (ap first e)) f' (let q = binds_operator s op h in omega arith))

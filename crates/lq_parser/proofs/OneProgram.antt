@@ -16,11 +16,10 @@ use Rattle.lq_parser.specs.declared.lexeme.Symbol.TheVariants.{Sign as SignSymbo
 use Rattle.lq_parser.specs.Lexemes.{first, sign_at, name_at}
 use Rattle.lq_parser.specs.Programs.{IsParam, param, AreMoreParams, no_more, more, AreParams, no_params, void_params, params, IsResult, void_result, type_result, IsFunc, func, AreFields, no_field, fields, IsStruct, struct, IsProgram, nothing, with_struct, with_func}
 use Rattle.lq_parser.specs.Outcome.{NoStar}
-use Rattle.lq_parser.proofs.Apart.{symbol_of, signs}
-use Rattle.lq_parser.proofs.Cuts.{heads, tails}
+use Rattle.lq_parser.proofs.Followers.{Heads}
+use Rattle.lq_parser.proofs.Apart.{symbol_of, signs, heads, tails, same_text}
 use Rattle.lq_parser.proofs.ItemRules.{func_no_struct}
-use Rattle.lq_parser.proofs.OneType.{same_text, both, shift, differs, begins_type, begins_type_symbol, type_first, one_type}
-use Rattle.lq_parser.proofs.OneExpression.{Heads}
+use Rattle.lq_parser.proofs.OneType.{both, shift, differs, begins_type, begins_type_symbol, type_first, one_type}
 use Rattle.lq_parser.proofs.OneStatement.{one_block}
 
 -- ---- parameters

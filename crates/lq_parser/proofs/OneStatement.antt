@@ -1,6 +1,6 @@
 -- Lexemes spell at most one statement, where what follows it may.
 use Rattle.std.proofs.Common.{sym, ap, ◌∙◌, subst, refl, arith, inl, inr}
-use Rattle.std.specs.Prelude.{◌≡◌, ℕ, Bool, true, false, ◌||◌, Option, None, Some, List, [], ◌∷◌, ◌++◌}
+use Rattle.std.specs.Prelude.{◌≡◌, ℕ, ℤ, Bool, true, false, ◌||◌, Option, None, Some, List, [], ◌∷◌, ◌++◌}
 use Rattle.std.proofs.lemmas.List.{append_assoc}
 use Rattle.std.proofs.lemmas.Bool.{or_left, or_right}
 use Rattle.lq_tree.specs.declared.place.Place.{Place}
@@ -12,85 +12,46 @@ use Rattle.lq_tree.specs.declared.stmt.Stmt.{Stmt}
 use Rattle.lq_tree.specs.declared.stmt.StmtKind.{StmtKind, Block, Local, Set, Store, Call, If, While, For, Return, Print, Cobegin, Foreach}
 use Rattle.lq_parser.specs.declared.lexeme.Lexeme.{Lexeme}
 use Rattle.lq_parser.specs.declared.lexeme.Sign.{Sign}
-use Rattle.lq_parser.specs.declared.lexeme.Sign.TheVariants.{LeftParen, RightParen, LeftBrace, RightBrace, Comma, Semicolon, Equal, Star, PlusEqual, MinusEqual, StarEqual, PlusPlus, MinusMinus}
+use Rattle.lq_parser.specs.declared.lexeme.Sign.TheVariants.{LeftParen, RightParen, LeftBracket, LeftBrace, RightBrace, Comma, Semicolon, Equal, Arrow as ArrowSign, Dot as DotSign, PlusEqual, MinusEqual, StarEqual, PlusPlus, MinusMinus}
 use Rattle.lq_parser.specs.declared.lexeme.Keyword.TheVariants.{Calloc as CallocWord, If as IfWord, Else, While as WhileWord, For as ForWord, Return as ReturnWord, Print as PrintWord, Cobegin as CobeginWord, Foreach as ForeachWord}
 use Rattle.lq_parser.specs.declared.lexeme.Symbol.{Symbol}
 use Rattle.lq_parser.specs.declared.lexeme.Symbol.TheVariants.{Name, Number, Sign as SignSymbol, Keyword as KeywordSymbol}
-use Rattle.lq_parser.specs.Lexemes.{first, sign_at, word_at, name_at, updating, stepping}
-use Rattle.lq_parser.specs.Expressions.{number, variable, call, calloc, parens, AreArguments, IsTail, no_tail, index, arrow, dot, IsPostfix, primary, IsExpression, IsPlace, postfix_place, deref_place}
-use Rattle.lq_parser.specs.Statements.{arm_of, IsOptional, none as none_there, some as some_there, Placed, placed, IsInitial, initial, IsDeclaration, declaration, IsSimple, set, update, step, store, call as call_there, IsPart, declaration_part, simple_part, IsFlat, empty, part, return, print, IsBlock, braces, AreStatements, no_statement, statement, IsBody, block_body, flat_body, IsGuarded, guarded, AreElses, no_else, else_body, else_if, IsStatement, block, flat, if, while, for, cobegin, foreach, IsBranch, branch, AreBranches, no_branch, branches}
+use Rattle.lq_parser.specs.Lexemes.{first, sign_at, name_at, updating, stepping}
+use Rattle.lq_parser.specs.Expressions.{number, variable, call, calloc, parens, AreArguments, IsTail, no_tail, index, arrow, dot, primary, IsExpression, IsPlace, postfix_place, deref_place}
+use Rattle.lq_parser.specs.Statements.{arm_of, IsOptional, none as none_there, some as some_there, Placed, placed, IsInitial, initial, IsDeclaration, declaration, IsSimple, set, update, step, store, call as call_there, IsPart, declaration_part, simple_part, IsFlat, empty, part, return, print, IsStep, no_step, a_step, IsBlock, braces, AreStatements, no_statement, statement, IsBody, block_body, flat_body, IsGuarded, guarded, AreElses, no_else, else_body, else_if, IsStatement, block, flat, if, while, for, cobegin, foreach, IsBranch, branch, AreBranches, no_branch, branches}
 use Rattle.lq_parser.specs.Outcome.{NoElse, Ends, IsEqual, EndsPart}
-use Rattle.lq_parser.proofs.Apart.{symbol_of, signs}
-use Rattle.lq_parser.proofs.Cuts.{heads, tails}
-use Rattle.lq_parser.proofs.OneType.{symbols, same_text, both, shift, differs, begins_type, begins_type_symbol, type_first, one_type}
-use Rattle.lq_parser.proofs.OneExpression.{Heads, begins_symbol, begins_expression, postfix_first, expression_first, ends_sign, sign_ends, tail_ends, one_primary, one_arguments, one_postfix, one_unary, one_binary}
-
--- ---- what follows
-
-equal_ends : {next : Option Lexeme} → IsEqual next → Ends 0 next
-equal_ends (at, e) = sign_ends e (omega arith)
-
-part_ends : {next : Option Lexeme} → EndsPart next → Ends 6 next
-part_ends (at, inl e) = sign_ends e (omega arith)
-part_ends (at, inr e) = sign_ends e (omega arith)
-
--- the sign that two lists begin with
-sign_same : {s s' : Sign} {at at' : Place} {w w' : List Lexeme} → sign_at s at ∷ w ≡ sign_at s' at' ∷ w' → s ≡ s'
-sign_same e = of_some (signs (ap first e))
-  where
-    of_some : {A : Type 0} {a b : A} → Some a ≡ Some b → a ≡ b
-    of_some q = cc
-
-sign_next : {s s' : Sign} {at at' : Place} → Some (sign_at s at) ≡ Some (sign_at s' at') → s ≡ s'
-sign_next e = of_some (signs e)
-  where
-    of_some : {A : Type 0} {a b : A} → Some a ≡ Some b → a ≡ b
-    of_some q = cc
-
-some_same : {A : Type 0} {a b : A} → Some a ≡ Some b → a ≡ b
-some_same q = cc
+use Rattle.lq_parser.proofs.IfRules.{body_no_if}
+use Rattle.lq_parser.proofs.PartRules.{postfix_no_star}
+use Rattle.lq_parser.proofs.ExpressionRules.{tail_follow}
+use Rattle.lq_parser.proofs.Followers.{Heads, ends_sign, part_ends, equal_ends, semicolon_ends, part_not}
+use Rattle.lq_parser.proofs.Apart.{symbol_of, signs, heads, tails, symbols, same_text, same_number, same_sign, some_same}
+use Rattle.lq_parser.proofs.OneType.{both, shift, differs, begins_type, begins_type_symbol, type_first, one_type}
+use Rattle.lq_parser.proofs.OneExpression.{begins_symbol, begins_expression, postfix_first, expression_first, one_primary, one_arguments, one_postfix, one_unary, one_binary}
 
 -- ---- places
 
-prefix_place : {u : List Lexeme} {e : Expr} → IsPostfix u e → (r : List Lexeme) → {at : Place} → first (u ++ r) ≡ Some (sign_at Star at) → ⊥
-prefix_place (primary {p = p} {t = t} number y) r e = cc (symbols e)
-prefix_place (primary {p = p} {t = t} variable y) r e = cc (symbols e)
-prefix_place (primary {p = p} {t = t} (call closing a) y) r e = cc (symbols e)
-prefix_place (primary {p = p} {t = t} (calloc comma size opening' closing' closing c k) y) r e = cc (symbols e)
-prefix_place (primary {p = p} {t = t} (parens closing i) y) r e = cc (symbols e)
-
 one_place : {u u' : List Lexeme} {v v' : Expr} → IsPlace u v → IsPlace u' v' → (r r' : List Lexeme) → IsEqual (first r) → IsEqual (first r') → u ++ r ≡ u' ++ r' → (v ≡ v') × (r ≡ r')
-one_place (postfix_place x h) (postfix_place y k) r r' f f' e = one_postfix x y r r' (equal_ends f) (equal_ends f') e
-one_place (deref_place x) (deref_place y) r r' f f' e = let h = one_unary x y r r' (equal_ends f) (equal_ends f') (tails e) in (ap Deref h.0, h.1)
-one_place (postfix_place x h) (deref_place y) r r' f f' e = absurd (prefix_place x r (ap first e))
-one_place (deref_place x) (postfix_place y k) r r' f f' e = absurd (prefix_place y r' (sym (ap first e)))
+one_place (postfix_place x h) (postfix_place y k) r r' f f' e = one_postfix x y r r' (equal_ends _ f) (equal_ends _ f') e
+one_place (deref_place x) (deref_place y) r r' f f' e = let h = one_unary x y r r' (equal_ends _ f) (equal_ends _ f') (tails e) in (ap Deref h.0, h.1)
+one_place (postfix_place x h) (deref_place y) r r' f f' e = absurd (postfix_no_star x r _ (ap first e))
+one_place (deref_place x) (postfix_place y k) r r' f f' e = absurd (postfix_no_star y r' _ (sym (ap first e)))
 
 place_first : {u : List Lexeme} {v : Expr} → IsPlace u v → (r : List Lexeme) → begins_expression (first (u ++ r)) ≡ true
 place_first (postfix_place x h) r = postfix_first x r
 place_first (deref_place x) r = refl
 
--- what ends a part is no other sign
-abbrev closes : Sign → Bool
-closes Semicolon = true
-closes RightParen = true
-closes _ = false
-
-part_no_sign : {next : Option Lexeme} {s : Sign} {at : Place} → EndsPart next → next ≡ Some (sign_at s at) → closes s ≡ false → ⊥
-part_no_sign (at, inl e) q h = cc (ap closes (sign_next (sym e ∙ q)), h)
-part_no_sign (at, inr e) q h = cc (ap closes (sign_next (sym e ∙ q)), h)
-
 -- a call that a part consists of is no place
 no_store_behind : {before after : Expr} {t : List Lexeme} (r w : List Lexeme) (at : Place) → IsTail before t after → EndsPart (first r) → r ≡ t ++ (sign_at Equal at ∷ w) → ⊥
-no_store_behind r w at no_tail f e = part_no_sign f (ap first e) refl
-no_store_behind r w at (index closing i t) f e = part_no_sign f (ap first e) refl
-no_store_behind r w at (arrow t) f e = part_no_sign f (ap first e) refl
-no_store_behind r w at (dot t) f e = part_no_sign f (ap first e) refl
+no_store_behind r w at no_tail f e = part_not {s = Equal} _ refl f (ap first e)
+no_store_behind r w at (index closing i t) f e = part_not {s = LeftBracket} _ refl f (ap first e)
+no_store_behind r w at (arrow t) f e = part_not {s = ArrowSign} _ refl f (ap first e)
+no_store_behind r w at (dot t) f e = part_not {s = DotSign} _ refl f (ap first e)
 
 call_is_no_place : {u : List Lexeme} {v : Expr} → IsPlace u v → (text : List ℕ) (at opening closing equal : Place) {a : List Lexeme} {arguments : List Expr} → AreArguments a arguments → (r w : List Lexeme) → EndsPart (first r)
     → (name_at text at ∷ sign_at LeftParen opening ∷ (a ++ (sign_at RightParen closing ∷ []))) ++ r ≡ u ++ (sign_at Equal equal ∷ w) → ⊥
 call_is_no_place (deref_place x) text at opening closing equal args r w f e = cc (symbols (ap first e))
 call_is_no_place (postfix_place (primary {p = p} {t = t} x y) h) text at opening closing equal args r w f e =
-    let q = one_primary (call {at = at} {opening = opening} closing {text = text} args) x r (t ++ (sign_at Equal equal ∷ w)) (λ at' h'. ends_sign h' (part_ends f) (omega arith)) (tail_ends y (sign_at Equal equal ∷ w) (omega arith)) (e ∙ append_assoc p t (sign_at Equal equal ∷ w)) in
+    let q = one_primary (call {at = at} {opening = opening} closing {text = text} args) x r (t ++ (sign_at Equal equal ∷ w)) (λ at' h'. ends_sign h' (part_ends _ f) (omega arith)) (tail_follow _ _ t (sign_at Equal equal ∷ w) y (omega arith)) (e ∙ append_assoc p t (sign_at Equal equal ∷ w)) in
     no_store_behind r w equal y f q.1
 
 -- ---- simple statements
@@ -168,14 +129,14 @@ updated_same p q h = cc
 
 one_simple : {u u' : List Lexeme} {v v' : StmtKind} → IsSimple u v → IsSimple u' v' → (r r' : List Lexeme) → EndsPart (first r) → EndsPart (first r') → u ++ r ≡ u' ++ r' → (v ≡ v') × (r ≡ r')
 one_simple (set x) (set x') r r' f f' e =
-    let h = one_binary x x' r r' (part_ends f) (part_ends f') (tails (tails e)) in (both Set (same_text e) h.0, h.1)
+    let h = one_binary x x' r r' (part_ends _ f) (part_ends _ f') (tails (tails e)) in (both Set (same_text e) h.0, h.1)
 one_simple (update m x) (update m' x') r r' f f' e =
-    let h = one_binary x x' r r' (part_ends f) (part_ends f') (tails (tails e)) in
-    (updated_same (same_text e) (same_meaning updating (sign_same (tails e)) m m') h.0, h.1)
-one_simple (step m) (step m') r r' f f' e = (updated_same (same_text e) (same_meaning stepping (sign_same (tails e)) m m') refl, tails (tails e))
+    let h = one_binary x x' r r' (part_ends _ f) (part_ends _ f') (tails (tails e)) in
+    (updated_same (same_text e) (same_meaning updating (same_sign (tails e)) m m') h.0, h.1)
+one_simple (step m) (step m') r r' f f' e = (updated_same (same_text e) (same_meaning stepping (same_sign (tails e)) m m') refl, tails (tails e))
 one_simple (store at {p = p} {e = a} x y) (store at' {p = p'} {e = a'} x' y') r r' f f' e =
     let q = one_place x x' (sign_at Equal at ∷ (a ++ r)) (sign_at Equal at' ∷ (a' ++ r')) (at, refl) (at', refl) (shift p (sign_at Equal at ∷ a) r p' (sign_at Equal at' ∷ a') r' e) in
-    let h = one_binary y y' r r' (part_ends f) (part_ends f') (tails q.1) in
+    let h = one_binary y y' r r' (part_ends _ f) (part_ends _ f') (tails q.1) in
     (both Store q.0 h.0, h.1)
 one_simple (call_there closing {a = a} x) (call_there closing' {a = a'} x') r r' f f' e =
     let h = one_arguments x x' (sign_at RightParen closing ∷ r) (sign_at RightParen closing' ∷ r') (closing, refl) (closing', refl) (shift a _ r a' _ r' (tails (tails e))) in
@@ -198,10 +159,10 @@ one_optional F same apart none_there (some_there y) r r' f f' e = absurd (apart 
 one_optional F same apart (some_there x) none_there r r' f f' e = absurd (apart _ _ x r (subst (λ w. F (first w)) (sym e) f'))
 
 one_initial : (u u' : List Lexeme) (v v' : Expr) → IsInitial u v → IsInitial u' v' → (r r' : List Lexeme) → EndsPart (first r) → EndsPart (first r') → u ++ r ≡ u' ++ r' → (v ≡ v') × (r ≡ r')
-one_initial u u' v v' (initial x) (initial y) r r' f f' e = one_binary x y r r' (part_ends f) (part_ends f') (tails e)
+one_initial u u' v v' (initial x) (initial y) r r' f f' e = one_binary x y r r' (part_ends _ f) (part_ends _ f') (tails e)
 
 initial_apart : (u : List Lexeme) (v : Expr) → IsInitial u v → (r : List Lexeme) → EndsPart (first (u ++ r)) → ⊥
-initial_apart u v (initial x) r f = part_no_sign f refl refl
+initial_apart u v (initial x) r f = part_not {s = Equal} _ refl f refl
 
 one_declaration : {u u' : List Lexeme} {v v' : StmtKind} → IsDeclaration u v → IsDeclaration u' v' → (r r' : List Lexeme) → EndsPart (first r) → EndsPart (first r') → u ++ r ≡ u' ++ r' → (v ≡ v') × (r ≡ r')
 one_declaration (declaration at {t = t} {i = i} {text = text} x y) (declaration at' {t = t'} {i = i'} {text = text'} x' y') r r' f f' e =
@@ -271,9 +232,6 @@ flat_tag_is empty r = refl
 flat_tag_is (part end {p = p} x) r = part_symbol (symbol_of (first ((p ++ (sign_at Semicolon end ∷ [])) ++ r))) (flat_part_first end x r)
 flat_tag_is (return end x) r = refl
 flat_tag_is (print closing end x) r = refl
-
-semicolon_ends : {next : Option Lexeme} → Heads (sign_at Semicolon) next → Ends 6 next
-semicolon_ends (at, e) = sign_ends e (omega arith)
 
 semicolon_part : {next : Option Lexeme} → Heads (sign_at Semicolon) next → EndsPart next
 semicolon_part (at, e) = (at, inl e)
@@ -363,7 +321,7 @@ statement_kind (if x y) = 2
 statement_kind (while x) = 3
 statement_kind (for end end' closing x y z b) = 4
 statement_kind (cobegin closing x y z) = 5
-statement_kind (foreach comma closing x y b) = 6
+statement_kind (foreach comma closing x y z b) = 6
 
 statement_compound : {u : List Lexeme} {k : StmtKind} → (x : IsStatement u k) → (r : List Lexeme) → compound (first (u ++ r)) ≡ statement_kind x
 statement_compound (block x) r = block_compound x r
@@ -372,7 +330,7 @@ statement_compound (if x y) r = refl
 statement_compound (while x) r = refl
 statement_compound (for end end' closing x y z b) r = refl
 statement_compound (cobegin closing x y z) r = refl
-statement_compound (foreach comma closing x y b) r = refl
+statement_compound (foreach comma closing x y z b) r = refl
 
 statement_opens : {u : List Lexeme} {k : StmtKind} → (x : IsStatement u k) → (r : List Lexeme) → opens (first (u ++ r)) ≡ true
 statement_opens (block x) r = block_opens x r
@@ -381,16 +339,11 @@ statement_opens (if x y) r = refl
 statement_opens (while x) r = refl
 statement_opens (for end end' closing x y z b) r = refl
 statement_opens (cobegin closing x y z) r = refl
-statement_opens (foreach comma closing x y b) r = refl
+statement_opens (foreach comma closing x y z b) r = refl
 
 statements_end : {u : List Lexeme} {s : List Stmt} → AreStatements u s → (r : List Lexeme) → Heads (sign_at RightBrace) (first r) → NoElse (first (u ++ r))
 statements_end no_statement r f = λ at h. cc (symbols (sym f.1 ∙ h))
 statements_end (statement {l = l} {s = s} {m = m} x y) r f = λ at h. differs opens h (statement_opens x (m ++ r)) refl
-
--- `if` behind `else` begins no body
-body_no_if : {u : List Lexeme} {s : Stmt} → IsBody u s → (r : List Lexeme) → {at : Place} → first (u ++ r) ≡ Some (word_at IfWord at) → ⊥
-body_no_if (block_body x) r e = cc (sym (block_compound x r) ∙ ap compound e)
-body_no_if (flat_body x) r e = cc (sym (flat_compound x r) ∙ ap compound e)
 
 abbrev stmt_at : Lexeme → StmtKind → Stmt
 stmt_at l k = record { at = l.at; kind = k }
@@ -417,8 +370,20 @@ arms_same p q = both (λ (a : Expr × Stmt) (b : List Arm). arm_of a ∷ b) p q
 for_same : {a a' : Option Stmt} {b b' : Option Expr} {c c' : Option Stmt} {d d' : Stmt} → a ≡ a' → b ≡ b' → c ≡ c' → d ≡ d' → For a b c d ≡ For a' b' c' d'
 for_same p q s t = cc
 
-foreach_same : {a a' : List ℕ} {b b' c c' : Expr} {d d' : Stmt} → a ≡ a' → b ≡ b' → c ≡ c' → d ≡ d' → Foreach a b c d ≡ Foreach a' b' c' d'
-foreach_same p q s t = cc
+foreach_same : {a a' : List ℕ} {b b' c c' : Expr} {n n' : ℤ} {d d' : Stmt} → a ≡ a' → b ≡ b' → c ≡ c' → n ≡ n' → d ≡ d' → Foreach a b c n d ≡ Foreach a' b' c' n' d'
+foreach_same p q s k t = cc
+
+-- what stands behind the bounds in the head of a `foreach` ends an expression
+step_ends : {s : List Lexeme} {n : ℤ} → IsStep s n → (closing : Place) (w r : List Lexeme) → Ends 6 (first ((s ++ (sign_at RightParen closing ∷ w)) ++ r))
+step_ends no_step closing w r = omega arith
+step_ends a_step closing w r = omega arith
+
+one_step : {s s' : List Lexeme} {n n' : ℤ} → IsStep s n → IsStep s' n' → (closing closing' : Place) (w w' : List Lexeme)
+    → s ++ (sign_at RightParen closing ∷ w) ≡ s' ++ (sign_at RightParen closing' ∷ w') → (n ≡ n') × (w ≡ w')
+one_step no_step no_step closing closing' w w' e = (refl, tails e)
+one_step a_step a_step closing closing' w w' e = (same_number (tails e), tails (tails (tails e)))
+one_step no_step a_step closing closing' w w' e = absurd (cc (symbols (ap first e)))
+one_step a_step no_step closing closing' w w' e = absurd (cc (symbols (ap first e)))
 
 cobegin_same : {a a' b b' : Stmt} {c c' : List Stmt} → a ≡ a' → b ≡ b' → c ≡ c' → Cobegin (a ∷ b ∷ c) ≡ Cobegin (a' ∷ b' ∷ c')
 cobegin_same p q s = cc
@@ -463,8 +428,8 @@ mutual
   one_elses no_else (else_if {at = at} x y) r r' f f' e = absurd (f at (ap first e))
   one_elses (else_body {at = at} x) no_else r r' f f' e = absurd (f' at (sym (ap first e)))
   one_elses (else_if {at = at} x y) no_else r r' f f' e = absurd (f' at (sym (ap first e)))
-  one_elses (else_body x) (else_if x' y') r r' f f' e = absurd (body_no_if x r (ap first (tails e)))
-  one_elses (else_if x y) (else_body x') r r' f f' e = absurd (body_no_if x' r' (sym (ap first (tails e))))
+  one_elses (else_body x) (else_if x' y') r r' f f' e = absurd (body_no_if r _ (ap first (tails e)) x)
+  one_elses (else_if x y) (else_body x') r r' f f' e = absurd (body_no_if r' _ (sym (ap first (tails e))) x')
 
   pub one_statement : {u u' : List Lexeme} {v v' : StmtKind} → IsStatement u v → IsStatement u' v' → (r r' : List Lexeme) → NoElse (first r) → NoElse (first r') → u ++ r ≡ u' ++ r' → (v ≡ v') × (r ≡ r')
   one_statement (block x) (block y) r r' f f' e = let h = one_block x y r r' e in (ap Block h.0, h.1)
@@ -495,15 +460,16 @@ mutual
       let q = one_branch y y1 ((m ++ more_back) ++ r) ((m1 ++ more_back1) ++ r') (shift b (m ++ more_back) r b1 (m1 ++ more_back1) r' p.1) in
       let t = one_branches z z1 (more_back ++ r) (more_back1 ++ r') (closing, refl) (closing1, refl) (shift m more_back r m1 more_back1 r' q.1) in
       (cobegin_same p.0 q.0 t.0, tails t.1)
-  one_statement (foreach comma closing {l = l} {h = h} {b = b} x y w) (foreach comma1 closing1 {l = l1} {h = h1} {b = b1} x1 y1 w1) r r' f f' e =
-      let high_back = sign_at RightParen closing ∷ b in
-      let high_back1 = sign_at RightParen closing1 ∷ b1 in
+  one_statement (foreach comma closing {l = l} {h = h} {s = s} {b = b} x y z w) (foreach comma1 closing1 {l = l1} {h = h1} {s = s1} {b = b1} x1 y1 z1 w1) r r' f f' e =
+      let high_back = s ++ (sign_at RightParen closing ∷ b) in
+      let high_back1 = s1 ++ (sign_at RightParen closing1 ∷ b1) in
       let low_back = sign_at Comma comma ∷ (h ++ high_back) in
       let low_back1 = sign_at Comma comma1 ∷ (h1 ++ high_back1) in
       let p = one_binary x x1 (low_back ++ r) (low_back1 ++ r') (omega arith) (omega arith) (shift l low_back r l1 low_back1 r' (tails (tails (tails (tails e))))) in
-      let q = one_binary y y1 (high_back ++ r) (high_back1 ++ r') (omega arith) (omega arith) (shift h high_back r h1 high_back1 r' (tails p.1)) in
-      let t = one_branch w w1 r r' (tails q.1) in
-      (foreach_same (same_text (tails (tails e))) p.0 q.0 t.0, t.1)
+      let q = one_binary y y1 (high_back ++ r) (high_back1 ++ r') (step_ends z closing b r) (step_ends z1 closing1 b1 r') (shift h high_back r h1 high_back1 r' (tails p.1)) in
+      let k = one_step z z1 closing closing1 (b ++ r) (b1 ++ r') (shift s (sign_at RightParen closing ∷ b) r s1 (sign_at RightParen closing1 ∷ b1) r' q.1) in
+      let t = one_branch w w1 r r' k.1 in
+      (foreach_same (same_text (tails (tails e))) p.0 q.0 k.0 t.0, t.1)
   one_statement x y r r' f f' e = absurd (cc (sym (statement_compound x r) ∙ ap (λ w. compound (first w)) e ∙ statement_compound y r'))
 
   pub one_branch : {u u' : List Lexeme} {v v' : Stmt} → IsBranch u v → IsBranch u' v' → (r r' : List Lexeme) → u ++ r ≡ u' ++ r' → (v ≡ v') × (r ≡ r')

@@ -1,8 +1,7 @@
 -- Lexemes spell at most one type, where what follows it may.
 use Rattle.std.proofs.Common.{sym, ap, ◌∙◌, refl}
-use Rattle.std.specs.Prelude.{◌≡◌, ℕ, suc, ℤ, Bool, true, false, Option, Some, List, ◌∷◌, ◌++◌}
+use Rattle.std.specs.Prelude.{◌≡◌, ℕ, suc, Bool, true, false, Option, Some, List, ◌++◌}
 use Rattle.std.proofs.lemmas.List.{append_assoc}
-use Rattle.lq_tree.specs.declared.place.Place.{Place}
 use Rattle.lq_tree.specs.declared.expr.Base.{Base}
 use Rattle.lq_tree.specs.declared.expr.Base.TheVariants.{Struct}
 use Rattle.lq_tree.specs.declared.expr.CType.{CType}
@@ -10,27 +9,10 @@ use Rattle.lq_parser.specs.declared.lexeme.Lexeme.{Lexeme}
 use Rattle.lq_parser.specs.declared.lexeme.Symbol.{Symbol}
 use Rattle.lq_parser.specs.declared.lexeme.Symbol.TheVariants.{Keyword as KeywordSymbol}
 use Rattle.lq_parser.specs.declared.lexeme.Keyword.TheVariants.{Int as IntWord, Struct as StructWord}
-use Rattle.lq_parser.specs.Lexemes.{first, name_at, number_at}
+use Rattle.lq_parser.specs.Lexemes.{first}
 use Rattle.lq_parser.specs.Types.{IsBase, int, struct, AreStars, none, star, IsType, type}
 use Rattle.lq_parser.specs.Outcome.{NoStar}
-use Rattle.lq_parser.proofs.Apart.{symbol_of, names, numbers}
-use Rattle.lq_parser.proofs.Cuts.{tails}
-
--- equal lexemes are of one symbol
-pub symbols : {a b : Option Lexeme} → a ≡ b → symbol_of a ≡ symbol_of b
-symbols e = ap symbol_of e
-
-pub same_text : {t t' : List ℕ} {at at' : Place} {w w' : List Lexeme} → name_at t at ∷ w ≡ name_at t' at' ∷ w' → t ≡ t'
-same_text e = of_some (names (ap first e))
-  where
-    of_some : {A : Type 0} {a b : A} → Some a ≡ Some b → a ≡ b
-    of_some h = cc
-
-pub same_number : {n n' : ℤ} {at at' : Place} {w w' : List Lexeme} → number_at n at ∷ w ≡ number_at n' at' ∷ w' → n ≡ n'
-same_number e = of_some (numbers (ap first e))
-  where
-    of_some : {A : Type 0} {a b : A} → Some a ≡ Some b → a ≡ b
-    of_some h = cc
+use Rattle.lq_parser.proofs.Apart.{symbol_of, tails, same_text, symbols}
 
 pub both : {A B C : Type 0} (f : A → B → C) {a a' : A} {b b' : B} → a ≡ a' → b ≡ b' → f a b ≡ f a' b'
 both f p q = cc

@@ -42,3 +42,12 @@ there (Some x) h p = (x, p)
 pub not_there : {A P : Type 0} (o : Option A) → false ≡ is_some o → IfNone o P → P
 not_there None h p = p
 not_there (Some x) h p = absurd (cc h)
+
+-- what holds of a result holds of the same result
+pub ok_by : {T E : Type 0} {P Q : T → Type 0} → ((p : T) → P p → Q p) → (r : Result T E) → IfOk r P → IfOk r Q
+ok_by f (Ok p) h = f p h
+ok_by f (Err e) h = tt
+
+pub err_by : {T E : Type 0} {P Q : E → Type 0} → ((p : E) → P p → Q p) → (r : Result T E) → IfErr r P → IfErr r Q
+err_by f (Ok p) h = tt
+err_by f (Err e) h = f e h

@@ -14,10 +14,10 @@ use Rattle.lq_parser.specs.Expressions.{IsPrimary, number, variable, call, callo
 use Rattle.lq_parser.specs.Statements.{IsSimple, set, update, step, store, call as called}
 use Rattle.lq_parser.specs.Sequence.{Then, then, Makes, makes, one, IsSign, IsStored}
 use Rattle.lq_parser.specs.Outcome.{Done, Fails, Begins, Lacks, LacksName, BeginsAs, LacksAs, Ends, EndsPart, IsEqual, NoParen, binds, binds_sign}
-use Rattle.lq_parser.proofs.Apart.{signs, names, numbers, keywords}
-use Rattle.lq_parser.proofs.Leads.{Leads, Completes, anywhere, leads_choose, leads_then, complete_one, complete_then, complete_makes}
+use Rattle.lq_parser.proofs.Apart.{signs, names, numbers, keywords, heads, tails, some_same, same_text}
+use Rattle.lq_parser.proofs.Leads.{Leads, Completes, anywhere, leads_choose, leads_then, complete_one, complete_then, complete_makes, parts}
 use Rattle.lq_parser.proofs.Firsts.{CanBegin, by_name, by_star, primary_begins, postfix_begins, begins_on, none_begins, complete_expression}
-use Rattle.lq_parser.proofs.Cuts.{heads, tails, IsAs, as_sign, first_then, fails_refused, some_same, meant, parts_of}
+use Rattle.lq_parser.proofs.Cuts.{IsAs, as_sign, first_then, fails_refused, meant}
 use Rattle.lq_parser.proofs.Followers.{part_ends, equal_ends, ends_tighter, part_not}
 
 -- what a store is completed by
@@ -48,7 +48,7 @@ primary_no_star (call closing a) r at h = cc (signs h)
 primary_no_star (calloc comma size opening' closing' closing c t) r at h = cc (signs h)
 primary_no_star (parens closing i) r at h = cc (signs h)
 
-postfix_no_star : {p : List Lexeme} {e : Expr} → IsPostfix p e → (r : List Lexeme) (at : Place) → first (p ++ r) ≡ Some (sign_at Star at) → ⊥
+pub postfix_no_star : {p : List Lexeme} {e : Expr} → IsPostfix p e → (r : List Lexeme) (at : Place) → first (p ++ r) ≡ Some (sign_at Star at) → ⊥
 postfix_no_star (primary {p = p} {t = t} x y) r at h = primary_no_star x (t ++ r) at (ap first (sym (append_assoc p t r)) ∙ h)
 
 deref_from : (u r : List Lexeme) (v : Expr) (at : Place) → first (u ++ r) ≡ Some (sign_at Star at) → IsPlace u v → DerefPlace u v
@@ -121,9 +121,6 @@ data NamedAs (text : List ℕ) (u : List Lexeme) (e : Expr) : Type 0 where
   as_variable : u ≡ [] → e ≡ Var text → NamedAs text u e
   as_call : (opening closing : Place) (a : List Lexeme) (arguments : List Expr)
       → u ≡ sign_at LeftParen opening ∷ (a ++ (sign_at RightParen closing ∷ [])) → AreArguments a arguments → e ≡ Call text arguments → NamedAs text u e
-
-same_text : {t text : List ℕ} {a at : Place} {x u : List Lexeme} → name_at t a ∷ x ≡ name_at text at ∷ u → t ≡ text
-same_text e = some_same (names (ap first e))
 
 named_as : {w u : List Lexeme} {e : Expr} {text : List ℕ} {at : Place} → w ≡ name_at text at ∷ u → IsPrimary w e → NamedAs text u e
 named_as eq number = absurd (cc (numbers (ap first eq)))
@@ -404,7 +401,7 @@ fails_tail {ls = ls} {end = end} {start = start} e =
   where
     dead : (f r : List Lexeme) (v : StmtKind) (other : List Lexeme) → first other ≡ first end → e.front ++ other ≡ f ++ r → Then (IsTail start) EndsWhole f v → EndsPart (first r) → ⊥
     dead f r v other h eq x s =
-        let p = parts_of x in
+        let p = parts x in
         e.dead other p.1 (p.2 ++ r) p.0 h (eq ∙ ap (λ u. u ++ r) p.3 ∙ append_assoc p.1 p.2 r) p.4 (whole_follows p.0 v p.2 r p.5 s)
 
 -- simple statements as a whole

@@ -14,13 +14,12 @@ use Rattle.lq_parser.specs.Lexemes.{first, sign_at, word_at, name_at}
 use Rattle.lq_parser.specs.Types.{IsType}
 use Rattle.lq_parser.specs.Statements.{IsBlock, braces, no_statement}
 use Rattle.lq_parser.specs.Programs.{IsParam, param, AreMoreParams, no_more, more, no_params, void_params, params, IsResult, void_result, type_result, IsFunc, func, AreFields, no_field, fields}
-use Rattle.lq_parser.specs.Sequence.{Then, then, Makes, makes, one, IsSign, IsWord, IsName, a_name, AreClosedParams, IsField}
+use Rattle.lq_parser.specs.Sequence.{Then, then, Makes, makes, one, IsSign, IsWord, IsName, held, AreClosedParams, IsField}
 use Rattle.lq_parser.specs.Outcome.{Begins, Lacks, BeginsName, LacksName, Anything, NoStar, place_of_first, LacksStruct}
 use Rattle.lq_parser.proofs.Leads.{Leads, leads_choose, leads_on, leads_one, Completes, complete_one, complete_name, complete_then, complete_makes, anywhere}
 use Rattle.lq_parser.proofs.Firsts.{CanBeginType, by_int, by_struct, type_begins_on, type_begins, type_some, complete_type}
-use Rattle.lq_parser.proofs.Cuts.{tails}
 use Rattle.lq_parser.proofs.Choices.{leads_placed}
-use Rattle.lq_parser.proofs.Apart.{keywords, signs}
+use Rattle.lq_parser.proofs.Apart.{keywords, signs, tails}
 
 -- a type begins with neither a sign nor `void`
 pub type_no_sign : {s : Sign} {at : Place} {next : Option Lexeme} → CanBeginType next → next ≡ Some (sign_at s at) → ⊥
@@ -37,20 +36,20 @@ abbrev pub ParamRule : List Lexeme → Param → Type 0
 ParamRule = Then IsType (λ type. Makes IsName (λ text. record { ctype = type; name = text }))
 
 param_into : (u : List Lexeme) (v : Param) → ParamRule u v → IsParam u v
-param_into u v (then x (makes (a_name {at = at}))) = param at x
+param_into u v (then x (makes (held {at = at}))) = param at x
 
 param_from : (u : List Lexeme) (v : Param) → IsParam u v → ParamRule u v
-param_from u v (param at x) = then x (makes a_name)
+param_from u v (param at x) = then x (makes held)
 
 pub leads_param : {ls : List Lexeme} → Leads IsParam Anything ls ParamRule ls
 leads_param = leads_choose param_into (λ u r v h x s. param_from u v x)
 
 -- a name is no `*`
 pub name_follows : {A : Type 0} {f : List ℕ → A} {b : A} (g r : List Lexeme) → Makes IsName f g b → NoStar (first (g ++ r))
-name_follows g r (makes a_name) = λ at e. cc (signs e)
+name_follows g r (makes held) = λ at e. cc (signs e)
 
 pub name_follows_then : {A : Type 0} {K : List ℕ → List Lexeme → A → Type 0} {b : A} (g r : List Lexeme) → Then IsName K g b → NoStar (first (g ++ r))
-name_follows_then g r (then a_name k) = λ at e. cc (signs e)
+name_follows_then g r (then held k) = λ at e. cc (signs e)
 
 pub complete_param : Completes IsParam
 complete_param = (complete_type.0 ++ (name_at [] anywhere ∷ []), record { ctype = complete_type.1; name = [] }, param anywhere complete_type.2)
@@ -191,12 +190,12 @@ FuncRule at = Then IsResult (λ result. Then IsName (FuncRest at result))
 
 func_into : (at : Place) (u : List Lexeme) (v : Func) → FuncRule at u v → at ≡ place_of_first u → IsFunc u v
 func_into at u v (then {front = []} r k) e = absurd (result_some r refl)
-func_into at u v (then {front = l ∷ f} {a = result} r (then (a_name {at = name} {text = text}) (then (one {at = opening}) (then (then {front = p} {a = ps} q (makes (one {at = closing}))) (makes {ls = b} {a = body} y))))) e =
+func_into at u v (then {front = l ∷ f} {a = result} r (then (held {at = name} {value = text}) (then (one {at = opening}) (then (then {front = p} {a = ps} q (makes (one {at = closing}))) (makes {ls = b} {a = body} y))))) e =
     rw (e, append_assoc p (sign_at RightParen closing ∷ []) b) (func name opening closing r q y)
 
 func_from : (u : List Lexeme) (v : Func) → IsFunc u v → FuncRule (place_of_first u) u v
 func_from u v (func name opening closing {l = l} {r = f} {p = p} {b = b} {result = result} {text = text} {params = ps} {body = body} r q y) =
-    rw (← append_assoc p (sign_at RightParen closing ∷ []) b) (then r (then a_name (then one (then (then q (makes one)) (makes y)))))
+    rw (← append_assoc p (sign_at RightParen closing ∷ []) b) (then r (then held (then one (then (then q (makes one)) (makes y)))))
 
 func_some : (at : Place) (u : List Lexeme) (v : Func) → FuncRule at u v → u ≡ [] → ⊥
 func_some at u v (then {front = []} r k) e = result_some r refl

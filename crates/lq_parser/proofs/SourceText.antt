@@ -1,24 +1,20 @@
 -- What is left of a table, of a number, of a text and of its tokens.
-use Rattle.std.proofs.Common.{◌≡◌, ℕ, ◌+◌, ◌-◌, ◌*◌, ◌^◌, ◌<◌, ◌≤◌, Bool, true, false, cond, Some, List, [], ◌∷◌, ◌++◌, length, map, take, drop, get_or, Bor, sym, ap, ◌∙◌, refl, arith, lit≤, not, length-take}
+use Rattle.std.proofs.Common.{◌≡◌, ℕ, ◌+◌, ◌<◌, ◌≤◌, Bool, true, false, cond, Some, List, [], ◌∷◌, ◌++◌, length, map, take, drop, get_or, Bor, sym, ap, ◌∙◌, refl, arith, not, length-take}
 use Rattle.std.specs.Map.{lookup}
-use Rattle.std.specs.Str.Parse.{digits_value}
 use Rattle.std.proofs.lemmas.List.{at_drop_more, take_more, map-append, get_or_default}
 use Rattle.std.proofs.lemmas.Bool.{false_from_ne_true, both_ways}
 use Rattle.std.proofs.lemmas.List.Sums.{suffix_len-le-length}
-use Rattle.std.proofs.lemmas.Str.Parse.{digits_value-take-le}
 use Rattle.std.proofs.lemmas.Slice.Eq.{bytes_eq-Decides}
 use Rattle.std.specs.Str.{bytes_eq}
 use Rattle.lq_tree.specs.Place.{ends_line, column_of}
 use Rattle.std.specs.Prelude.{All}
 use Rattle.std.specs.List.{AllPairs}
 use Rattle.lq_lexer.specs.declared.token.Token.{Token}
-use Rattle.lq_lexer.specs.Tokens.{IsNumber, text_of}
+use Rattle.lq_lexer.specs.Tokens.{text_of}
 use Rattle.lq_parser.specs.Source.{symbol_of, place_at, lexeme_of, lexemes_of}
 use Rattle.lq_parser.specs.declared.lexeme.Lexeme.{Lexeme}
 use Rattle.lq_parser.specs.declared.lexeme.Symbol.{Symbol}
 use Rattle.lq_tree.specs.declared.place.Place.{Place}
-use Rattle.lq_lexer.proofs.Numbers.{digit_here, value_more}
-use Rattle.lq_lexer.proofs.Spelling.{digits_all}
 
 -- the entries of a table, each with its text
 abbrev pub entries_of : {T : Type 0} → List (Bor (List ℕ) × T) → List (List ℕ × T)
@@ -33,24 +29,6 @@ lookup_more test table i d h = at_drop_more (λ ls. lookup test (entries_of ls))
 pub bytes_eq_turned : (xs ys : List ℕ) (b : Bool) → b ≡ bytes_eq xs ys → bytes_eq ys xs ≡ b
 bytes_eq_turned xs ys true h = (bytes_eq-Decides ys xs).1 (sym ((bytes_eq-Decides xs ys).0 (sym h)))
 bytes_eq_turned xs ys false h = false_from_ne_true (bytes_eq ys xs) (λ e. both_ways (bytes_eq xs ys) (sym h) ((bytes_eq-Decides xs ys).1 (sym ((bytes_eq-Decides ys xs).0 e))))
-
--- one digit more, in a number that fits
-pub record DigitMore (digits : List ℕ) (i value : ℕ) : Type 0 where
-  pub low : 48 ≤ get_or digits i 0
-  pub is : value * 10 + (get_or digits i 0 - 48) ≡ digits_value 10 (take (i + 1) digits)
-  pub small : value * 10 + (get_or digits i 0 - 48) < 2 ^ 63
-
-pub digit_more : (digits : List ℕ) (i value : ℕ) → IsNumber digits → i < length digits → value ≡ digits_value 10 (take i digits) → DigitMore digits i value
-digit_more digits i value number lt h =
-    let all = digits_all digits number.numeral.1 in
-    let here = digit_here digits i all lt in
-    let more = value_more digits i all lt in
-    let top = digits_value-take-le 10 digits (i + 1) (lit≤ tt) in
-    record {
-      low = here.0;
-      is = omega (arith, more, h);
-      small = omega (arith, more, h, top, number.small);
-    }
 
 -- a column is at most one more than the bytes before it
 pub column_fits : (text : List ℕ) (at col : ℕ) → col ≡ column_of (take at text) → col ≤ at + 1

@@ -14,13 +14,13 @@ use Rattle.lq_parser.specs.declared.lexeme.Symbol.{Symbol}
 use Rattle.lq_parser.specs.declared.lexeme.Symbol.TheVariants.{Sign as SignSymbol, Keyword as KeywordSymbol}
 use Rattle.lq_parser.specs.Lexemes.{first, sign_at, word_at}
 use Rattle.lq_parser.specs.Expressions.{IsExpression}
-use Rattle.lq_parser.specs.Statements.{Placed, placed, IsSimple, IsPart, IsFlat, empty, part, return, print, IsBlock, braces, AreStatements, no_statement, statement, IsBody, block_body, flat_body, IsGuarded, guarded, AreElses, IsStatement, block, flat, if, while, for, cobegin, foreach, IsBranch, branch}
-use Rattle.lq_parser.specs.Sequence.{Then, then, Makes, makes, one, IsSign, IsName, a_name, IsClosed}
+use Rattle.lq_parser.specs.Statements.{Placed, placed, IsSimple, IsPart, IsFlat, empty, part, return, print, IsBlock, braces, AreStatements, no_statement, statement, IsBody, block_body, flat_body, IsGuarded, guarded, AreElses, IsStep, IsStatement, block, flat, if, while, for, cobegin, foreach, IsBranch, branch}
+use Rattle.lq_parser.specs.Sequence.{Then, then, Makes, makes, one, IsSign, IsName, held, IsClosed}
 use Rattle.lq_parser.specs.Outcome.{Done, Fails, Begins, Lacks, Ends, NoElse, place_of_first}
-use Rattle.lq_parser.proofs.Apart.{signs, keywords}
+use Rattle.lq_parser.proofs.Apart.{signs, keywords, heads, tails}
 use Rattle.lq_parser.proofs.Leads.{Leads, Completes, anywhere, leads_choose, complete_one, complete_then, complete_makes}
 use Rattle.lq_parser.proofs.Firsts.{complete_expression}
-use Rattle.lq_parser.proofs.Cuts.{heads, tails, first_then}
+use Rattle.lq_parser.proofs.Cuts.{first_then}
 use Rattle.lq_parser.proofs.Followers.{paren_ends}
 use Rattle.lq_parser.proofs.FlatRules.{begun, begun_type, not_part, complete_sign}
 
@@ -181,7 +181,7 @@ statement_never_at e (if x y) = cc
 statement_never_at e (while x) = cc
 statement_never_at e (for end end' closing i c s b) = cc
 statement_never_at e (cobegin closing a b m) = cc
-statement_never_at e (foreach comma closing l h b) = cc
+statement_never_at e (foreach comma closing l h s b) = cc
 
 pub statement_never : (v : StmtKind) → IsStatement [] v → ⊥
 statement_never v x = statement_never_at refl x
@@ -208,7 +208,7 @@ not_statement r h k m n e (if x y) = cc (ap begun_statement e)
 not_statement r h k m n e (while x) = cc (ap begun_statement e)
 not_statement r h k m n e (for end end' closing i c s b) = cc (ap begun_statement e)
 not_statement r h k m n e (cobegin closing a b m') = cc (ap begun_statement e)
-not_statement r h k m n e (foreach comma closing l h' b) = cc (ap begun_statement e)
+not_statement r h k m n e (foreach comma closing l h' s b) = cc (ap begun_statement e)
 
 block_from : (u r : List Lexeme) (v : StmtKind) (at : Place) → first (u ++ r) ≡ Some (sign_at LeftBrace at) → IsStatement u v → Makes IsBlock Block u v
 block_from u r v at h (block x) = makes x
@@ -217,7 +217,7 @@ block_from u r v at h (if x y) = absurd (cc (signs h))
 block_from u r v at h (while x) = absurd (cc (signs h))
 block_from u r v at h (for end end' closing i c s b) = absurd (cc (signs h))
 block_from u r v at h (cobegin closing a b m) = absurd (cc (signs h))
-block_from u r v at h (foreach comma closing l h' b) = absurd (cc (signs h))
+block_from u r v at h (foreach comma closing l h' s' b) = absurd (cc (signs h))
 
 block_into : (u : List Lexeme) (v : StmtKind) → Makes IsBlock Block u v → IsStatement u v
 block_into u v (makes x) = block x
@@ -233,7 +233,7 @@ flat_from u r v ls no_block no_if no_while no_for no_cobegin no_foreach h (if {a
 flat_from u r v ls no_block no_if no_while no_for no_cobegin no_foreach h (while {at = at} x) = absurd (no_while at (sym h))
 flat_from u r v ls no_block no_if no_while no_for no_cobegin no_foreach h (for {at = at} end end' closing i c s b) = absurd (no_for at (sym h))
 flat_from u r v ls no_block no_if no_while no_for no_cobegin no_foreach h (cobegin {at = at} closing a b m) = absurd (no_cobegin at (sym h))
-flat_from u r v ls no_block no_if no_while no_for no_cobegin no_foreach h (foreach {at = at} comma closing l h' b) = absurd (no_foreach at (sym h))
+flat_from u r v ls no_block no_if no_while no_for no_cobegin no_foreach h (foreach {at = at} comma closing l h' s b) = absurd (no_foreach at (sym h))
 
 pub leads_flat : {F : Option Lexeme → Type 0} {ls : List Lexeme} → Lacks (sign_at LeftBrace) ls → Lacks (word_at IfWord) ls → Lacks (word_at WhileWord) ls → Lacks (word_at ForWord) ls
     → Lacks (word_at CobeginWord) ls → Lacks (word_at ForeachWord) ls → Leads IsStatement F ls IsFlat ls
@@ -254,7 +254,7 @@ the_while_from u eq (if x y) = absurd (cc (keywords (ap first eq)))
 the_while_from u eq (while x) = rw (← tails eq) (makes x)
 the_while_from u eq (for end end' closing i c s b) = absurd (cc (keywords (ap first eq)))
 the_while_from u eq (cobegin closing a b m) = absurd (cc (keywords (ap first eq)))
-the_while_from u eq (foreach comma closing l h b) = absurd (cc (keywords (ap first eq)))
+the_while_from u eq (foreach comma closing l h s b) = absurd (cc (keywords (ap first eq)))
 
 pub leads_the_while : {at : Place} {F : Option Lexeme → Type 0} {ls : List Lexeme} → Leads (λ u v. IsStatement (word_at WhileWord at ∷ u) v) F ls Loop ls
 leads_the_while {at = at} = leads_choose (the_while_into at) (λ u r v h x s. the_while_from u refl x)
@@ -274,7 +274,7 @@ the_for_from u eq (if x y) = absurd (cc (keywords (ap first eq)))
 the_for_from u eq (while x) = absurd (cc (keywords (ap first eq)))
 the_for_from u eq (for end end' closing {i = i} {c = c} {s = s} {b = b} x y z k) = rw (← tails eq) (rw (← append_assoc i (sign_at Semicolon end ∷ []) (c ++ (sign_at Semicolon end' ∷ (s ++ (sign_at RightParen closing ∷ b)))), ← append_assoc c (sign_at Semicolon end' ∷ []) (s ++ (sign_at RightParen closing ∷ b)), ← append_assoc s (sign_at RightParen closing ∷ []) b) (then one (then (then x (makes one)) (then (then y (makes one)) (then (then z (makes one)) (makes k))))))
 the_for_from u eq (cobegin closing a b m) = absurd (cc (keywords (ap first eq)))
-the_for_from u eq (foreach comma closing l h b) = absurd (cc (keywords (ap first eq)))
+the_for_from u eq (foreach comma closing l h s b) = absurd (cc (keywords (ap first eq)))
 
 pub leads_the_for : {at : Place} {F : Option Lexeme → Type 0} {ls : List Lexeme} → Leads (λ u v. IsStatement (word_at ForWord at ∷ u) v) F ls ForLoop ls
 leads_the_for {at = at} = leads_choose (the_for_into at) (λ u r v h x s. the_for_from u refl x)
@@ -282,10 +282,10 @@ leads_the_for {at = at} = leads_choose (the_for_into at) (λ u r v h x s. the_fo
 -- parallel loops
 
 abbrev pub Parallel : List Lexeme → StmtKind → Type 0
-Parallel = Then (IsSign LeftParen) (λ _. Then IsName (λ text. Then (IsSign Comma) (λ _. Then IsExpression (λ low. Then (IsSign Comma) (λ _. Then IsExpression (λ high. Then (IsSign RightParen) (λ _. Makes IsBranch (Foreach text low high))))))))
+Parallel = Then (IsSign LeftParen) (λ _. Then IsName (λ text. Then (IsSign Comma) (λ _. Then IsExpression (λ low. Then (IsSign Comma) (λ _. Then IsExpression (λ high. Then IsStep (λ step. Then (IsSign RightParen) (λ _. Makes IsBranch (Foreach text low high step)))))))))
 
 the_foreach_into : (at : Place) (u : List Lexeme) (v : StmtKind) → Parallel u v → IsStatement (word_at ForeachWord at ∷ u) v
-the_foreach_into at u v (then one (then a_name (then one (then l (then one (then h (then one (makes b)))))))) = foreach _ _ l h b
+the_foreach_into at u v (then one (then held (then one (then l (then one (then h (then s (then one (makes b))))))))) = foreach _ _ l h s b
 
 the_foreach_from : {at : Place} {w : List Lexeme} (u : List Lexeme) {v : StmtKind} → w ≡ word_at ForeachWord at ∷ u → IsStatement w v → Parallel u v
 the_foreach_from u eq (block x) = let b = block_begins x [] in absurd (cc (signs (sym b.1 ∙ ap (λ z. first (z ++ [])) eq)))
@@ -294,7 +294,7 @@ the_foreach_from u eq (if x y) = absurd (cc (keywords (ap first eq)))
 the_foreach_from u eq (while x) = absurd (cc (keywords (ap first eq)))
 the_foreach_from u eq (for end end' closing i c s b) = absurd (cc (keywords (ap first eq)))
 the_foreach_from u eq (cobegin closing a b m) = absurd (cc (keywords (ap first eq)))
-the_foreach_from u eq (foreach comma closing l h b) = rw (← tails eq) (then one (then a_name (then one (then l (then one (then h (then one (makes b))))))))
+the_foreach_from u eq (foreach comma closing l h s b) = rw (← tails eq) (then one (then held (then one (then l (then one (then h (then s (then one (makes b)))))))))
 
 pub leads_the_foreach : {at : Place} {F : Option Lexeme → Type 0} {ls : List Lexeme} → Leads (λ u v. IsStatement (word_at ForeachWord at ∷ u) v) F ls Parallel ls
 leads_the_foreach {at = at} = leads_choose (the_foreach_into at) (λ u r v h x s. the_foreach_from u refl x)

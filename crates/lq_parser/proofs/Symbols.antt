@@ -1,6 +1,6 @@
 -- No reserved word stands in what is spelled.
 use Rattle.std.proofs.Common.{refl}
-use Rattle.std.specs.Prelude.{◌≡◌, ℕ, Bool, true, false, Option, List, [], ◌∷◌, ◌++◌, ⊤}
+use Rattle.std.specs.Prelude.{◌≡◌, ℕ, ℤ, Bool, true, false, Option, List, [], ◌∷◌, ◌++◌, ⊤}
 use Rattle.lq_tree.specs.declared.expr.Base.{Base}
 use Rattle.lq_tree.specs.declared.expr.CType.{CType}
 use Rattle.lq_tree.specs.declared.expr.Expr.{Expr}
@@ -16,7 +16,7 @@ use Rattle.lq_parser.specs.declared.lexeme.Symbol.{Symbol}
 use Rattle.lq_parser.specs.declared.lexeme.Symbol.TheVariants.{Reserved}
 use Rattle.lq_parser.specs.Types.{IsBase, int, struct, AreStars, none, star, IsType, type}
 use Rattle.lq_parser.specs.Expressions.{IsPrimary, number, variable, call, calloc, parens, AreArguments, no_arguments, arguments, AreMore, no_more, more, IsTail, no_tail, index, arrow, dot, IsPostfix, primary, IsUnary, postfix, negative, not, deref, IsBinary, operand, joined, IsChain, no_chain, chain, IsPlace, postfix_place, deref_place}
-use Rattle.lq_parser.specs.Statements.{IsOptional, none as none_there, some as some_there, Placed, placed, IsInitial, initial, IsDeclaration, declaration, IsSimple, set, update, step, store, call as call_there, IsPart, declaration_part, simple_part, IsFlat, empty, part, return, print, IsBlock, braces, AreStatements, no_statement, statement, IsBody, block_body, flat_body, IsGuarded, guarded, AreElses, no_else, else_body, else_if, IsStatement, block, flat, if, while, for, cobegin, foreach, IsBranch, branch, AreBranches, no_branch, branches}
+use Rattle.lq_parser.specs.Statements.{IsOptional, none as none_there, some as some_there, Placed, placed, IsInitial, initial, IsDeclaration, declaration, IsSimple, set, update, step, store, call as call_there, IsPart, declaration_part, simple_part, IsFlat, empty, part, return, print, IsStep, no_step, a_step, IsBlock, braces, AreStatements, no_statement, statement, IsBody, block_body, flat_body, IsGuarded, guarded, AreElses, no_else, else_body, else_if, IsStatement, block, flat, if, while, for, cobegin, foreach, IsBranch, branch, AreBranches, no_branch, branches}
 use Rattle.lq_parser.specs.Programs.{IsParam, param, AreMoreParams, no_more as no_more_params, more as more_params, AreParams, no_params, void_params, params, IsResult, void_result, type_result, IsFunc, func, AreFields, no_field, fields, IsStruct, struct as struct_there, IsProgram, nothing, with_struct, with_func}
 
 abbrev pub is_reserved : Symbol → Bool
@@ -121,6 +121,10 @@ plain_flat (part end {p = p} x) = plain_append p _ (plain_part x) (refl, tt)
 plain_flat (return end {e = e} x) = (refl, plain_append e _ (plain_optional (λ u v y. plain_binary y) x) (refl, tt))
 plain_flat (print closing end {e = e} x) = (refl, (refl, plain_append e _ (plain_binary x) (refl, (refl, tt))))
 
+plain_step : {ls : List Lexeme} {n : ℤ} → IsStep ls n → Plain ls
+plain_step no_step = tt
+plain_step a_step = (refl, (refl, tt))
+
 mutual
   plain_block : {ls : List Lexeme} {s : List Stmt} → IsBlock ls s → Plain ls
   plain_block (braces closing {s = s} x) = (refl, plain_append s _ (plain_statements x) (refl, tt))
@@ -159,8 +163,8 @@ mutual
   )
   plain_statement (cobegin closing {a = a} {b = b} {m = m} x y z) =
       (refl, (refl, plain_append a _ (plain_branch x) (plain_append b _ (plain_branch y) (plain_append m _ (plain_branches z) (refl, tt)))))
-  plain_statement (foreach comma' closing {l = l} {h = h} x y b) =
-      (refl, (refl, (refl, (refl, plain_append l _ (plain_binary x) (refl, plain_append h _ (plain_binary y) (refl, plain_branch b))))))
+  plain_statement (foreach comma' closing {l = l} {h = h} {s = s} x y z b) =
+      (refl, (refl, (refl, (refl, plain_append l _ (plain_binary x) (refl, plain_append h _ (plain_binary y) (plain_append s _ (plain_step z) (refl, plain_branch b)))))))
 
   plain_branch : {ls : List Lexeme} {s : Stmt} → IsBranch ls s → Plain ls
   plain_branch (branch x) = plain_block x

@@ -10,7 +10,7 @@ use Rattle.lq_parser.specs.declared.lexeme.Sign.TheVariants.{Star}
 use Rattle.lq_parser.specs.declared.lexeme.Keyword.TheVariants.{Int as IntWord, Struct as StructWord}
 use Rattle.lq_parser.specs.Lexemes.{first, sign_at, word_at}
 use Rattle.lq_parser.specs.Types.{IsBase, int, struct, AreStars, none, star, IsType, type}
-use Rattle.lq_parser.specs.Sequence.{Then, then, Makes, makes, Nothing, nothing, one, IsWord, IsSign, IsName, a_name}
+use Rattle.lq_parser.specs.Sequence.{Then, then, Makes, makes, Nothing, nothing, one, IsWord, IsSign, IsName, held}
 use Rattle.lq_parser.specs.Outcome.{Done, Fails, Begins, Lacks, Anything, NoStar}
 use Rattle.lq_parser.proofs.Apart.{keywords}
 use Rattle.lq_parser.proofs.Leads.{Leads, leads_choose, leads_then, leads_one, leads_on, fails_then, done_nothing}
@@ -29,11 +29,11 @@ int_from u r v at h int = makes one
 int_from u r v at h struct = absurd (cc (keywords h))
 
 struct_into : (u : List Lexeme) (v : Base) → StructBase u v → IsBase u v
-struct_into u v (then one (makes a_name)) = struct
+struct_into u v (then one (makes held)) = struct
 
 struct_from : (u r : List Lexeme) (v : Base) (ls : List Lexeme) → Lacks (word_at IntWord) ls → first (u ++ r) ≡ first ls → IsBase u v → StructBase u v
 struct_from u r v ls lacks h (int {at = at}) = absurd (lacks at (sym h))
-struct_from u r v ls lacks h struct = then one (makes a_name)
+struct_from u r v ls lacks h struct = then one (makes held)
 
 pub leads_int : {ls rest : List Lexeme} → Begins (word_at IntWord) ls rest → Leads IsBase Anything ls IntBase ls
 leads_int b = leads_choose int_into (λ u r v h x s. int_from u r v b.0 (h ∙ ap first b.1) x)

@@ -4,7 +4,7 @@ use Rattle.lq_tree.specs.declared.place.Place.{Place}
 use Rattle.lq_tree.specs.declared.expr.BinOp.{BinOp}
 use Rattle.lq_parser.specs.declared.lexeme.Lexeme.{Lexeme}
 use Rattle.lq_parser.specs.declared.lexeme.Sign.{Sign}
-use Rattle.lq_parser.specs.declared.lexeme.Sign.TheVariants.{LeftParen, RightParen, LeftBrace, LeftBracket, Dot, Arrow, Star, Semicolon, Equal}
+use Rattle.lq_parser.specs.declared.lexeme.Sign.TheVariants.{LeftParen, RightParen, LeftBrace, LeftBracket, Comma, Dot, Arrow, Star, Semicolon, Equal}
 use Rattle.lq_parser.specs.declared.lexeme.Keyword.TheVariants.{Else, Struct}
 use Rattle.lq_parser.specs.declared.lexeme.Symbol.{Symbol}
 use Rattle.lq_parser.specs.declared.lexeme.Symbol.TheVariants.{Sign as SignSymbol}
@@ -120,6 +120,10 @@ NoParen next = (at : Place) → next ≢ Some (sign_at LeftParen at)
 -- `*` may not follow a type
 abbrev pub NoStar : Option Lexeme → Type 0
 NoStar next = (at : Place) → next ≢ Some (sign_at Star at)
+
+-- `,` may not follow a step
+abbrev pub NoComma : Option Lexeme → Type 0
+NoComma next = (at : Place) → next ≢ Some (sign_at Comma at)
 
 -- `else` may not follow a statement
 abbrev pub NoElse : Option Lexeme → Type 0

@@ -1,5 +1,5 @@
 -- Parts of rules one behind another.
-use Rattle.std.specs.Prelude.{ℕ, List, [], ◌∷◌, ◌++◌, Option}
+use Rattle.std.specs.Prelude.{ℕ, ℤ, List, [], ◌∷◌, ◌++◌, Option}
 use Rattle.lq_tree.specs.declared.place.Place.{Place}
 use Rattle.lq_parser.specs.declared.lexeme.Lexeme.{Lexeme}
 use Rattle.lq_parser.specs.declared.lexeme.Sign.{Sign}
@@ -9,10 +9,10 @@ use Rattle.lq_tree.specs.declared.stmt.StmtKind.{StmtKind, Store, For, Foreach}
 use Rattle.lq_tree.specs.declared.stmt.Stmt.{Stmt}
 use Rattle.lq_parser.specs.declared.lexeme.Sign.TheVariants.{RightParen, RightBrace, Semicolon, Comma, Equal}
 use Rattle.lq_parser.specs.Expressions.{AreArguments, IsExpression}
-use Rattle.lq_parser.specs.Statements.{IsOptional, Placed, IsSimple, IsBody, IsBranch}
+use Rattle.lq_parser.specs.Statements.{IsOptional, Placed, IsSimple, IsStep, IsBody, IsBranch}
 use Rattle.lq_parser.specs.Programs.{IsParam, AreParams, AreFields}
 use Rattle.lq_tree.specs.declared.program.Param.{Param}
-use Rattle.lq_parser.specs.Lexemes.{sign_at, word_at, name_at}
+use Rattle.lq_parser.specs.Lexemes.{sign_at, word_at, name_at, number_at}
 
 -- X, and then what goes on with its value
 pub data Then {A B : Type 0} (X : List Lexeme → A → Type 0) (K : A → List Lexeme → B → Type 0) : List Lexeme → B → Type 0 where
@@ -36,9 +36,17 @@ IsSign s = IsOne (sign_at s)
 abbrev pub IsWord : Keyword → List Lexeme → Unit {0} → Type 0
 IsWord k = IsOne (word_at k)
 
+-- one lexeme that holds a value, wherever it stands
+pub data Holds {A : Type 0} (make : A → Place → Lexeme) : List Lexeme → A → Type 0 where
+  held : {at : Place} {value : A} → Holds make (make value at ∷ []) value
+
 -- one NAME
-pub data IsName : List Lexeme → List ℕ → Type 0 where
-  a_name : {at : Place} {text : List ℕ} → IsName (name_at text at ∷ []) text
+abbrev pub IsName : List Lexeme → List ℕ → Type 0
+IsName = Holds name_at
+
+-- one NUMBER
+abbrev pub IsNumber : List Lexeme → ℤ → Type 0
+IsNumber = Holds number_at
 
 -- arguments and the `)` behind them
 abbrev pub IsEnclosed : List Lexeme → List Expr → Type 0
@@ -60,9 +68,13 @@ IsBehindCondition initial cond = Then (IsClosed (Placed IsSimple) (sign_at Right
 abbrev pub IsBehindFirst : Option Stmt → List Lexeme → StmtKind → Type 0
 IsBehindFirst initial = Then (IsClosed IsExpression (sign_at Semicolon)) (λ cond. IsBehindCondition initial cond)
 
+-- what stands behind the step in the head of a `foreach`
+abbrev pub IsBehindStep : List ℕ → Expr → Expr → ℤ → List Lexeme → StmtKind → Type 0
+IsBehindStep index low high step = Then (IsSign RightParen) (λ _. Makes IsBranch (Foreach index low high step))
+
 -- what stands behind the bounds in the head of a `foreach`
 abbrev pub IsBehindBounds : List ℕ → Expr → Expr → List Lexeme → StmtKind → Type 0
-IsBehindBounds index low high = Then (IsSign RightParen) (λ _. Makes IsBranch (Foreach index low high))
+IsBehindBounds index low high = Then IsStep (IsBehindStep index low high)
 
 -- what stands behind the index in the head of a `foreach`
 abbrev pub IsBehindIndex : List ℕ → List Lexeme → StmtKind → Type 0

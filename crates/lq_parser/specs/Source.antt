@@ -2,7 +2,7 @@
 use Rattle.std.specs.Prelude.{ℕ, pos, Option, None, Some, List, [], ◌∷◌, map, take, codes}
 use Rattle.std.specs.Map.{lookup}
 use Rattle.std.specs.Str.{bytes_eq}
-use Rattle.std.specs.Str.Parse.{digits_value}
+use Rattle.lq_text.specs.Numeral.{place_value}
 use Rattle.lq_tree.specs.declared.place.Place.{Place}
 use Rattle.lq_tree.specs.Place.{line_of, column_of}
 use Rattle.lq_lexer.specs.declared.token.Token.{Token}
@@ -82,7 +82,7 @@ keyword_symbol None = Reserved
 -- a token of this kind and text as the grammar sees it: words of annotations and words that no rule uses are no symbol of a rule
 abbrev pub symbol_of : TokenKind → List ℕ → Symbol
 symbol_of NameToken text = Name text
-symbol_of NumberToken text = Number (pos (digits_value 10 text))
+symbol_of NumberToken text = Number (pos (place_value text))
 symbol_of SignToken text = sign_symbol (lookup (bytes_eq text) signs)
 symbol_of KeywordToken text = keyword_symbol (lookup (bytes_eq text) keywords)
 symbol_of kind text = Reserved

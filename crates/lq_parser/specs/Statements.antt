@@ -1,5 +1,5 @@
 -- The statements that lexemes spell, one case a rule of the grammar. docs/LANGUAGE.md, "Grammar"; C11 6.8.
-use Rattle.std.specs.Prelude.{◌≡◌, ℕ, pos, Option, None, Some, List, [], ◌∷◌, ◌++◌}
+use Rattle.std.specs.Prelude.{◌≡◌, ℕ, ℤ, pos, Option, None, Some, List, [], ◌∷◌, ◌++◌}
 use Rattle.lq_tree.specs.declared.place.Place.{Place}
 use Rattle.lq_tree.specs.declared.expr.CType.{CType}
 use Rattle.lq_tree.specs.declared.expr.BinOp.{BinOp}
@@ -11,7 +11,7 @@ use Rattle.lq_parser.specs.declared.lexeme.Lexeme.{Lexeme}
 use Rattle.lq_parser.specs.declared.lexeme.Sign.{Sign}
 use Rattle.lq_parser.specs.declared.lexeme.Sign.TheVariants.{LeftParen, RightParen, LeftBrace, RightBrace, Comma, Semicolon, Equal}
 use Rattle.lq_parser.specs.declared.lexeme.Keyword.TheVariants.{If as IfWord, Else, While as WhileWord, For as ForWord, Return as ReturnWord, Print as PrintWord, Cobegin as CobeginWord, Foreach as ForeachWord}
-use Rattle.lq_parser.specs.Lexemes.{sign_at, word_at, name_at, updating, stepping}
+use Rattle.lq_parser.specs.Lexemes.{sign_at, word_at, name_at, number_at, updating, stepping}
 use Rattle.lq_parser.specs.Types.{IsType}
 use Rattle.lq_parser.specs.Expressions.{AreArguments, IsExpression, IsPlace}
 
@@ -64,6 +64,11 @@ pub data IsFlat : List Lexeme → StmtKind → Type 0 where
   print : {at opening : Place} (closing end : Place) {e : List Lexeme} {value : Expr}
       → IsExpression e value → IsFlat (word_at PrintWord at ∷ sign_at LeftParen opening ∷ (e ++ (sign_at RightParen closing ∷ sign_at Semicolon end ∷ []))) (Print value)
 
+-- [ "," NUMBER ]: the step of a `foreach`, 1 where none is written
+pub data IsStep : List Lexeme → ℤ → Type 0 where
+  no_step : IsStep [] (pos 1)
+  a_step : {comma at : Place} {value : ℤ} → IsStep (sign_at Comma comma ∷ number_at value at ∷ []) value
+
 mutual
   -- block = "{" { stmt } "}"
   pub data IsBlock : List Lexeme → List Stmt → Type 0 where
@@ -106,9 +111,9 @@ mutual
     cobegin : {at opening : Place} (closing : Place) {a b m : List Lexeme} {first second : Stmt} {more : List Stmt}
         → IsBranch a first → IsBranch b second → AreBranches m more
         → IsStatement (word_at CobeginWord at ∷ sign_at LeftBrace opening ∷ (a ++ (b ++ (m ++ (sign_at RightBrace closing ∷ []))))) (Cobegin (first ∷ second ∷ more))
-    foreach : {at opening at' comma : Place} (comma' closing : Place) {text : List ℕ} {l h b : List Lexeme} {low high : Expr} {body : Stmt}
-        → IsExpression l low → IsExpression h high → IsBranch b body
-        → IsStatement (word_at ForeachWord at ∷ sign_at LeftParen opening ∷ name_at text at' ∷ sign_at Comma comma ∷ (l ++ (sign_at Comma comma' ∷ (h ++ (sign_at RightParen closing ∷ b))))) (Foreach text low high body)
+    foreach : {at opening at' comma : Place} (comma' closing : Place) {text : List ℕ} {l h s b : List Lexeme} {low high : Expr} {step : ℤ} {body : Stmt}
+        → IsExpression l low → IsExpression h high → IsStep s step → IsBranch b body
+        → IsStatement (word_at ForeachWord at ∷ sign_at LeftParen opening ∷ name_at text at' ∷ sign_at Comma comma ∷ (l ++ (sign_at Comma comma' ∷ (h ++ (s ++ (sign_at RightParen closing ∷ b)))))) (Foreach text low high step body)
 
   -- a block as a statement
   pub data IsBranch : List Lexeme → Stmt → Type 0 where

@@ -8,7 +8,7 @@ ghost use Rattle.lq_parser.specs.Lexemes.{name_at, word_at, sign_at, updating, s
 ghost use Rattle.lq_parser.specs.Expressions.{IsPlace, is_place};
 ghost use Rattle.lq_parser.specs.Statements.{IsDeclaration, IsSimple, IsPart, IsFlat};
 ghost use Rattle.lq_parser.specs.Sequence.{IsStored, Then, Makes, IsSign};
-ghost use Rattle.lq_parser.specs.Outcome.{Done, Stops, Anything, EndsPart, IsEqual, Lacks, BeginsAs, LacksAs};
+ghost use Rattle.lq_parser.specs.Outcome.{Done, Stops, StopsFor, Anything, EndsPart, IsEqual, Begins, Lacks, BeginsAs, LacksAs};
 
 use crate::expressions::{expression, named, postfix, tail, unary};
 use crate::lexeme::{Keyword, Lexeme, Sign, Symbol};
@@ -266,6 +266,24 @@ fn printed<'a>(alloc: Global, lexemes: &'a [Lexeme]) -> Result<(StmtKind, &'a [L
     Ok((StmtKind::Print(value), rest))
 }
 
+/// A statement that was read, and the lexemes behind the sign that has to close it.
+pub fn closed_by<'a>(
+    kind: StmtKind,
+    lexemes: &'a [Lexeme],
+    closing: Sign,
+) -> Result<(StmtKind, &'a [Lexeme]), Stop<'a>>
+    ensures found { IfOk result (λ p. (p.0 ≡ kind) × Begins (sign_at closing) lexemes.now p.1.now) }
+    ensures missing { IfErr result (λ stop. StopsFor (sign_at closing) lexemes.now stop) }
+{
+    match expect_sign(lexemes, closing) {
+        Ok(rest) => Ok((kind, rest)),
+        Err(stop) => {
+            drop(kind);
+            Err(stop)
+        }
+    }
+}
+
 // A part and the `;` behind it.
 fn closed_part<'a>(
     alloc: Global,
@@ -276,11 +294,7 @@ fn closed_part<'a>(
     ensures shorter { IfOk result (λ p. length p.1.now < length lexemes.now) }
 {
     let (kind, rest) = part(alloc, lexemes)?;
-    let Some(after) = eat_sign(rest, Sign::Semicolon) else {
-        drop(kind);
-        return Err(Stop::Syntax(rest));
-    };
-    Ok((kind, after))
+    closed_by(kind, rest, Sign::Semicolon)
 }
 
 /// A statement without a body.

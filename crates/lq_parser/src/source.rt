@@ -1,13 +1,13 @@
-ghost use Rattle.std.specs.Prelude.{◌≡◌, ◌-◌, ◌<◌, ◌≤◌, ◌^◌, pos, map, length, IfOk, All};
+ghost use Rattle.std.specs.Prelude.{◌≡◌, ◌-◌, ◌<◌, ◌≤◌, ◌^◌, map, length, IfOk, All};
 ghost use Rattle.std.specs.List.{AllPairs};
 ghost use Rattle.std.specs.Map.{lookup};
 ghost use Rattle.std.specs.Str.{bytes_eq};
-ghost use Rattle.std.specs.Str.Parse.{digits_value};
-ghost use Rattle.lq_lexer.specs.Tokens.{IsNumber, Spells, text_of};
+ghost use Rattle.lq_lexer.specs.Tokens.{Spells, text_of};
 ghost use Rattle.lq_parser.specs.Source.{symbol_of, place_at, lexemes_of};
 
 use crate::lexeme::{Keyword, Lexeme, Sign, Symbol};
 use lq_lexer::{Token, TokenKind};
+use lq_text::read_literal;
 use lq_tree::{Name, Place};
 use std::alloc::{AllocError, Global};
 
@@ -72,18 +72,6 @@ fn entry_of<T: Copy>(table: &[(&[u8], T)], text: &[u8]) -> Option<T>
     None
 }
 
-// The value of a number.
-fn number_of(digits: &[u8]) -> i64
-    requires { IsNumber digits.now }
-    ensures { result ≡ pos (digits_value 10 digits.now) }
-{
-    let mut value = 0u64;
-    for digit in digits {
-        value = value * 10 + u64::from(*digit - b'0');
-    }
-    value as i64
-}
-
 // A token of this kind and text as the grammar sees it.
 fn symbol(alloc: Global, kind: TokenKind, text: &[u8]) -> Result<Symbol, AllocError>
     requires { Spells kind text.now }
@@ -91,7 +79,7 @@ fn symbol(alloc: Global, kind: TokenKind, text: &[u8]) -> Result<Symbol, AllocEr
 {
     Ok(match kind {
         TokenKind::Name => Symbol::Name(Name::from_slice(alloc, text)?),
-        TokenKind::Number => Symbol::Number(number_of(text)),
+        TokenKind::Number => read_literal(text).map_or(Symbol::Reserved, Symbol::Number),
         TokenKind::Sign => entry_of(&SIGNS, text).map_or(Symbol::Reserved, Symbol::Sign),
         TokenKind::Keyword => entry_of(&KEYWORDS, text).map_or(Symbol::Reserved, Symbol::Keyword),
         TokenKind::Annotation | TokenKind::Unused => Symbol::Reserved,

@@ -3,17 +3,17 @@ ghost use Rattle.lq_tree.specs.declared.place.Place.{Place};
 ghost use Rattle.lq_parser.specs.declared.lexeme.Keyword.TheVariants.{If as IfWord, While as WhileWord, For as ForWord, Cobegin as CobeginWord, Foreach as ForeachWord};
 ghost use Rattle.lq_parser.specs.declared.lexeme.Sign.TheVariants.{Semicolon, RightParen};
 ghost use Rattle.lq_parser.specs.Lexemes.{word_at, sign_at};
-ghost use Rattle.lq_parser.specs.Statements.{IsOptional, Placed, IsPart, IsSimple, IsBlock, IsBody, IsGuarded, IsStatement, IsBranch};
+ghost use Rattle.lq_parser.specs.Statements.{IsOptional, Placed, IsPart, IsSimple, IsStep, IsBlock, IsBody, IsGuarded, IsStatement, IsBranch};
 ghost use Rattle.lq_parser.specs.Expressions.{IsExpression};
 ghost use Rattle.lq_tree.specs.declared.stmt.StmtKind.{For as ForKind, Foreach as ForeachKind};
 ghost use Rattle.lq_parser.specs.Sequence.{IsClosed, Makes, IsBehindFirst, IsBehindCondition, IsBehindIndex, IsBehindBounds};
-ghost use Rattle.lq_parser.specs.Outcome.{Done, Stops, Anything, NoElse, place_of_first};
+ghost use Rattle.lq_parser.specs.Outcome.{Done, Stops, Anything, NoComma, NoElse, place_of_first};
 
 use crate::expressions::expression;
 use crate::lexeme::{Keyword, Lexeme, Sign};
-use crate::parts::{copy, flat, part, simple};
+use crate::parts::{closed_by, copy, flat, part, simple};
 use crate::stop::Stop;
-use crate::terminals::{eat_sign, eat_word, expect_name, expect_sign};
+use crate::terminals::{eat_number, eat_sign, eat_word, expect_name, expect_sign};
 use lq_tree::{Arm, Boxed, Expr, Items, Name, Place, Stmt, StmtKind};
 use std::alloc::{AllocError, Global};
 
@@ -183,11 +183,8 @@ fn for_first<'a>(
     }
     let at = place_of_first(lexemes);
     let (kind, rest) = part(alloc, lexemes)?;
-    let Some(after) = eat_sign(rest, Sign::Semicolon) else {
-        drop(kind);
-        return Err(Stop::Syntax(rest));
-    };
-    Ok((Some(boxed_at(alloc, at, kind)?), after))
+    let (closed, rest) = closed_by(kind, rest, Sign::Semicolon)?;
+    Ok((Some(boxed_at(alloc, at, closed)?), rest))
 }
 
 // The condition in the head of a `for`, and the `;` behind it.
@@ -221,11 +218,8 @@ fn for_third<'a>(
     }
     let at = place_of_first(lexemes);
     let (kind, rest) = simple(alloc, lexemes)?;
-    let Some(after) = eat_sign(rest, Sign::RightParen) else {
-        drop(kind);
-        return Err(Stop::Syntax(rest));
-    };
-    Ok((Some(boxed_at(alloc, at, kind)?), after))
+    let (closed, rest) = closed_by(kind, rest, Sign::RightParen)?;
+    Ok((Some(boxed_at(alloc, at, closed)?), rest))
 }
 
 // What stands behind the word `for`.
@@ -372,6 +366,21 @@ fn foreach_behind_index<'a>(
     foreach_behind_bounds(alloc, index, low, high, rest)
 }
 
+// The step in the head of a `foreach`: the number behind a comma, or 1 where there is no comma.
+fn foreach_step(lexemes: &[Lexeme]) -> Result<(i64, &[Lexeme]), Stop<'_>>
+    ensures done { IfOk result (λ p. Done IsStep NoComma lexemes.now p.0 p.1.now) }
+    ensures stops { IfErr result (λ stop. Stops IsStep NoComma lexemes.now stop) }
+    ensures shorter { IfOk result (λ p. length p.1.now ≤ length lexemes.now) }
+{
+    let Some(after) = eat_sign(lexemes, Sign::Comma) else {
+        return Ok((1, lexemes));
+    };
+    let Some((step, rest)) = eat_number(after) else {
+        return Err(Stop::Syntax(after));
+    };
+    Ok((step, rest))
+}
+
 // What stands behind the bounds in the head of a `foreach`.
 #[cycle(statements)]
 fn foreach_behind_bounds<'a>(
@@ -385,10 +394,11 @@ fn foreach_behind_bounds<'a>(
     ensures stops { IfErr result (λ stop. Stops (IsBehindBounds index.now low high) NoElse lexemes.now stop) }
     ensures shorter { IfOk result (λ p. length p.1.now < length lexemes.now) }
 {
-    let rest = expect_sign(lexemes, Sign::RightParen)?;
+    let (step, rest) = foreach_step(lexemes)?;
+    let rest = expect_sign(rest, Sign::RightParen)?;
     let (body, rest) = branch(alloc, rest)?;
     let body = Boxed::new(alloc, body)?;
-    Ok((parallel(alloc, index, low, high, body)?, rest))
+    Ok((parallel(alloc, index, low, high, step, body)?, rest))
 }
 
 // The tree of a `foreach`.
@@ -397,12 +407,13 @@ fn parallel(
     index: &Name,
     low: Expr,
     high: Expr,
+    step: i64,
     body: Boxed<Stmt>,
 ) -> Result<StmtKind, AllocError>
-    ensures { IfOk result (λ k. k ≡ ForeachKind index.now low high body) }
+    ensures { IfOk result (λ k. k ≡ ForeachKind index.now low high step body) }
 {
     match copy(alloc, index) {
-        Ok(index) => Ok(StmtKind::Foreach(index, low, high, body)),
+        Ok(index) => Ok(StmtKind::Foreach(index, low, high, step, body)),
         Err(failed) => {
             drop(low);
             drop(high);

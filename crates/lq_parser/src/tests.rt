@@ -73,7 +73,7 @@ const EXPRESSIONS: [(&str, &str); 60] = [
     ("1+2*3-4/5%6", "(- (+ 1 (* 2 3)) (% (/ 4 5) 6))"),
 ];
 
-const STATEMENTS: [(&str, &str); 51] = [
+const STATEMENTS: [(&str, &str); 54] = [
     (";", ";"),
     ("{}", "{}"),
     ("{;;}", "{; ;}"),
@@ -132,11 +132,14 @@ const STATEMENTS: [(&str, &str); 51] = [
     ("for(;a;){}", "(for - a - {})"),
     ("cobegin{{}{}}", "(cobegin {} {})"),
     ("cobegin{{x=1;}{;}{}}", "(cobegin {(x = 1)} {;} {})"),
-    ("foreach(i,0,n){}", "(foreach i 0 n {})"),
+    ("foreach(i,0,n){}", "(foreach i 0 n 1 {})"),
     (
         "foreach(i,a+1,b*2){a[i]=i;}",
-        "(foreach i (+ a 1) (* b 2) {(store ([] a i) i)})",
+        "(foreach i (+ a 1) (* b 2) 1 {(store ([] a i) i)})",
     ),
+    ("foreach (i, 0, 5, 2) {;}", "(foreach i 0 5 2 {;})"),
+    ("foreach(i,0,n,0){}", "(foreach i 0 n 0 {})"),
+    ("foreach(i,0,n,65537){}", "(foreach i 0 n 65537 {})"),
     (
         "if(a){if(b);else;}else;",
         "(if (a {(if (b ;) else ;)}) else ;)",
@@ -171,7 +174,7 @@ const PROGRAMS: [(&str, &str); 11] = [
     ("/* c */ // d\n", ""),
 ];
 
-const STATEMENT_FAULTS: [(&str, usize); 73] = [
+const STATEMENT_FAULTS: [(&str, usize); 81] = [
     ("5;", 1),
     ("a;", 1),
     ("(a)=1;", 3),
@@ -233,7 +236,15 @@ const STATEMENT_FAULTS: [(&str, usize); 73] = [
     ("foreach(i,0,n)x=1;", 14),
     ("foreach(1,0,n){}", 8),
     ("foreach(i,0){}", 11),
-    ("foreach(i,0,n,2){}", 13),
+    ("foreach(i,0,n 2){}", 14),
+    ("foreach(i,0,n,){}", 14),
+    ("foreach(i,0,n,m){}", 14),
+    ("foreach(i,0,n,-1){}", 14),
+    ("foreach(i,0,n,(2)){}", 14),
+    ("foreach(i,0,n,2+1){}", 15),
+    ("foreach(i,0,n,2,3){}", 15),
+    ("foreach(i,0,n,2);", 16),
+    ("foreach(i,0,n,2", 15),
     ("break;", 0),
     ("x=char;", 2),
     ("a.b.c;", 5),

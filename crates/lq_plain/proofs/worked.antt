@@ -4,3 +4,5 @@ pub mod Programs
 pub mod Forms
 pub mod Lines
 pub mod Factors
+pub mod Edges
+pub mod Through

@@ -1,16 +1,12 @@
 -- The factors of a source, from which the checker takes its multipliers (docs/LANGUAGE.md, "Plain form").
 use Rattle.std.specs.Prelude.{ℕ, zero, suc, ◌||◌, Bool, false, ℤ, pos, List, [], ◌∷◌, filter}
 use Rattle.std.specs.Ordering.{int_eq}
-use Rattle.std.specs.List.{list_any}
+use Rattle.std.specs.List.{list_any, flat_map}
 use Rattle.lq_tree.specs.declared.expr.BinOp.TheVariants.{Mul, Div, Rem}
 use Rattle.lq_tree.specs.declared.expr.Expr.{Expr, Num, Bin', Row_of-Expr, more_of-Expr}
-use Rattle.lq_tree.specs.declared.stmt.StmtKind.{out-StmtKind}
 use Rattle.lq_tree.specs.declared.program.Func.{Func}
 use Rattle.lq_tree.specs.declared.program.Program.{Program}
-use Rattle.lq_names.specs.Calls.{nothing}
-use Rattle.lq_names.specs.Faults.{some_value}
-use Rattle.lq_names.specs.Headers.{body_site}
-use Rattle.lq_names.specs.Sites.{Placed, nodes, sites_list}
+use Rattle.lq_tree.specs.Walk.{nodes, expressions}
 
 -- the one expression of a box is this literal
 abbrev pub is_literal : {m : _} → ℤ → Row_of-Expr m → Bool
@@ -24,18 +20,9 @@ takes n (Bin' Div p a q b) = is_literal n b
 takes n (Bin' Rem p a q b) = is_literal n b
 takes n _ = false
 
--- somewhere in an expression, in a statement, in a function, in the source
-abbrev pub expression_takes : ℤ → Expr → Bool
-expression_takes n e = list_any (takes n) (nodes e)
-
-abbrev pub placed_takes : ℤ → Placed → Bool
-placed_takes n s = some_value (expression_takes n) (out-StmtKind s.kind)
-
-abbrev pub function_takes : Program → ℤ → Func → Bool
-function_takes p n f = list_any (placed_takes n) (sites_list (body_site p nothing nothing f) f.body)
-
-abbrev pub is_factor : Program → ℤ → Bool
-is_factor p n = list_any (function_takes p n) p.funcs
+-- somewhere in a function it is
+abbrev pub function_takes : ℤ → Func → Bool
+function_takes n f = list_any (takes n) (flat_map nodes (expressions f.body))
 
 -- so many numbers from this one on
 abbrev pub numbers_from : ℕ → (count : ℕ) → List ℤ
@@ -44,4 +31,4 @@ numbers_from n (suc count) = pos n ∷ numbers_from (suc n) count
 
 -- the factors among the numbers from 2 to 64
 abbrev pub factors : Program → List ℤ
-factors p = filter (is_factor p) (numbers_from 2 63)
+factors p = filter (λ n. list_any (function_takes n) p.funcs) (numbers_from 2 63)

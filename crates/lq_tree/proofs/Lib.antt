@@ -1,0 +1,5 @@
+pub mod TypeLaws
+pub mod NodeLaws
+pub mod FormLaws
+pub mod LimitLaws
+pub mod worked

@@ -1,6 +1,14 @@
 pub mod Place
 pub mod Trap
+pub mod Lookup
+pub mod Limit
+pub mod Step
 pub mod Types
+pub mod Seen
+pub mod Locals
+pub mod Layout
+pub mod Walk
+pub mod PlainWalk
 pub mod PlainTypes
 pub mod PlainScopes
 pub mod PlainShape

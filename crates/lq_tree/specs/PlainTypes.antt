@@ -1,23 +1,15 @@
 -- The types of a plain program (docs/LANGUAGE.md, "What holds of a plain program"; ISO/IEC 9899:2011, 6.5.6 for pointers).
-use Rattle.std.specs.Prelude.{ℕ, zero, suc, Bool, true, false, not, ◌&&◌, ◌==◌, List, [], ◌∷◌, slice_get, Option, None, Some}
+use Rattle.std.specs.Prelude.{ℕ, zero, suc, Bool, true, false, not, ◌&&◌, ◌==◌, if◌then◌else◌, List, [], ◌∷◌, slice_get, Option, None, Some}
 use Rattle.lq_tree.specs.declared.expr.CType.{CType}
 use Rattle.lq_tree.specs.declared.program.Program.{Program}
 use Rattle.lq_tree.specs.declared.program.Param.{Param}
 use Rattle.lq_tree.specs.declared.program.StructDef.{StructDef}
 use Rattle.lq_tree.specs.declared.plain.PExpr.{PExpr, Num, Null, Slot as InSlot, Neg', Not', Bin', Shift', IsNull', Row_of-PExpr, end_of-PExpr, more_of-PExpr}
-use Rattle.lq_tree.specs.declared.plain.PKind.{PKind, Set, Load, Store, Calloc, Call, If', While', Cobegin', Foreach, Print, Return, Row_of-PStmt, end_of-PStmt, more_of-PStmt, Row_of-Branch, end_of-Branch, more_of-Branch}
-use Rattle.lq_tree.specs.declared.plain.PStmt.{PStmt}
-use Rattle.lq_tree.specs.declared.plain.Branch.{Branch, Branch'}
+use Rattle.lq_tree.specs.declared.plain.PKind.{PKind, Set, Load, Store, Calloc, Call, If', While', Cobegin', Foreach, Print, Return}
 use Rattle.lq_tree.specs.declared.plain.Slot.{Slot}
 use Rattle.lq_tree.specs.declared.plain.PFunc.{PFunc}
 use Rattle.lq_tree.specs.declared.plain.PProgram.{PProgram}
 use Rattle.lq_tree.specs.Types.{Ty, Number, Pointer, Element, Unknown, same_base, declared, element_of, type_of_field, struct_of, is_number, is_pointer, is_known, result_of}
-
--- where a statement stands: its program, and the slots and the result of its function
-pub record Frame : Type 0 where
-  pub program : PProgram
-  pub slots : List Slot
-  pub result : Option CType
 
 -- an int or a pointer
 abbrev pub is_value : Ty → Bool
@@ -39,6 +31,7 @@ agree Number Number = true
 agree (Pointer base stars) (Pointer other more) = same_base base other && stars == more
 agree _ _ = false
 
+-- the type of a slot, unknown where there is none
 abbrev pub type_at : Option Slot → Ty
 type_at None = Unknown
 type_at (Some s) = declared s.ctype
@@ -46,55 +39,54 @@ type_at (Some s) = declared s.ctype
 abbrev pub slot_type : List Slot → ℕ → Ty
 slot_type slots n = type_at (slice_get slots n)
 
-abbrev pub fields_of : Option StructDef → List Param
-fields_of None = []
-fields_of (Some s) = s.fields
+-- an int where the operands are what they must be
+abbrev pub number_if : Bool → Ty
+number_if holds = if holds then Number else Unknown
+
+-- a pointer so many elements further on has the same type
+abbrev pub shifted : (pointer distance : Ty) → Ty
+shifted pointer distance = if is_pointer pointer && is_number distance then pointer else Unknown
+
+-- the type of an expression, unknown where an operand isn't of the type that it must be; null has none by itself
+abbrev mutual
+  pub plain_type : List Slot → PExpr → Ty
+  plain_type slots (Num n) = Number
+  plain_type slots Null = Unknown
+  plain_type slots (InSlot n) = slot_type slots n
+  plain_type slots (Neg' p e) = number_if (is_number (operand_type slots e))
+  plain_type slots (Not' p e) = number_if (is_number (operand_type slots e))
+  plain_type slots (Bin' op p a q b) = number_if (is_number (operand_type slots a) && is_number (operand_type slots b))
+  plain_type slots (Shift' p a q n) = shifted (operand_type slots a) (operand_type slots n)
+  plain_type slots (IsNull' p e) = number_if (is_pointer (operand_type slots e))
+
+  pub operand_type : {n : _} → List Slot → Row_of-PExpr n → Ty
+  operand_type slots end_of-PExpr = Unknown
+  operand_type slots (more_of-PExpr e rest) = plain_type slots e
+
+-- the expression may stand where a value of this type is wanted: null stands for a pointer of any type
+abbrev pub fits : List Slot → (wanted : Ty) → PExpr → Bool
+fits slots wanted Null = is_pointer wanted
+fits slots wanted e = agree wanted (plain_type slots e)
+
+-- the fields of a struct
+abbrev pub fields_in : Option StructDef → List Param
+fields_in None = []
+fields_in (Some s) = s.fields
 
 -- the type of a field, by its number, of an element of this type; a number and a pointer are field 0
 abbrev pub field_type : List StructDef → Ty → ℕ → Ty
-field_type structs (Element struct) n = type_of_field (slice_get (fields_of (struct_of structs struct)) n)
+field_type structs (Element struct) n = type_of_field (slice_get (fields_in (struct_of structs struct)) n)
 field_type structs type zero = type
 field_type structs type (suc n) = Unknown
 
 -- the type of what a pointer slot reaches, with this field
-abbrev pub reached : Frame → (base field : ℕ) → Ty
-reached f base field = field_type f.program.structs (element_of (slot_type f.slots base)) field
-
--- the expression has a type; null has any pointer type
-abbrev mutual
-  pub has_type : List Slot → Ty → PExpr → Bool
-  has_type slots type (Num n) = is_number type
-  has_type slots type Null = is_pointer type
-  has_type slots type (InSlot n) = agree type (slot_type slots n)
-  has_type slots type (Neg' p e) = is_number type && row_has_type slots Number e
-  has_type slots type (Not' p e) = is_number type && row_has_type slots Number e
-  has_type slots type (Bin' op p a q b) = is_number type && row_has_type slots Number a && row_has_type slots Number b
-  has_type slots type (Shift' p a q n) = is_pointer type && row_has_type slots type a && row_has_type slots Number n
-  has_type slots type (IsNull' p e) = is_number type && row_points slots e
-
-  pub row_has_type : {n : _} → List Slot → Ty → Row_of-PExpr n → Bool
-  row_has_type slots type end_of-PExpr = false
-  row_has_type slots type (more_of-PExpr e rest) = has_type slots type e
-
-  -- it is a pointer, of whatever type
-  pub points : List Slot → PExpr → Bool
-  points slots Null = true
-  points slots (InSlot n) = is_pointer (slot_type slots n)
-  points slots (Shift' p a q n) = row_points slots a && row_has_type slots Number n
-  points slots _ = false
-
-  pub row_points : {n : _} → List Slot → Row_of-PExpr n → Bool
-  row_points slots end_of-PExpr = false
-  row_points slots (more_of-PExpr e rest) = points slots e
-
--- an int
-abbrev pub is_int : Frame → PExpr → Bool
-is_int f e = has_type f.slots Number e
+abbrev pub reached : PProgram → PFunc → (base field : ℕ) → Ty
+reached p f base field = field_type p.structs (element_of (slot_type f.slots base)) field
 
 -- each argument has the type of its parameter, and there are as many
 abbrev pub arguments_fit : List Slot → (params : ℕ) → (callee : List Slot) → List PExpr → Bool
 arguments_fit slots zero callee [] = true
-arguments_fit slots (suc n) (param ∷ callee) (e ∷ args) = has_type slots (declared param.ctype) e && arguments_fit slots n callee args
+arguments_fit slots (suc n) (param ∷ callee) (e ∷ args) = fits slots (declared param.ctype) e && arguments_fit slots n callee args
 arguments_fit slots _ callee args = false
 
 -- the slot for a result, if there is one, has its type
@@ -102,44 +94,29 @@ abbrev pub result_fits : List Slot → Option ℕ → Option CType → Bool
 result_fits slots None result = true
 result_fits slots (Some to) result = agree (slot_type slots to) (result_of result)
 
-abbrev pub callee_fits : List Slot → Option ℕ → Option PFunc → List PExpr → Bool
-callee_fits slots to None args = false
-callee_fits slots to (Some g) args = arguments_fit slots g.params g.slots args && result_fits slots to g.result
+-- a call of a function that is there
+abbrev pub call_fits : List Slot → Option ℕ → Option PFunc → List PExpr → Bool
+call_fits slots to None args = false
+call_fits slots to (Some g) args = arguments_fit slots g.params g.slots args && result_fits slots to g.result
 
 -- a return gives a value of the result's type, or none where there is no result
 abbrev pub return_fits : List Slot → Option CType → Option PExpr → Bool
 return_fits slots None None = true
-return_fits slots (Some type) (Some e) = has_type slots (declared type) e
+return_fits slots (Some type) (Some e) = fits slots (declared type) e
 return_fits slots _ _ = false
 
--- each slot, function, struct and field that a statement names is there, its types agree, and `main` isn't called
-abbrev mutual
-  pub is_typed : Frame → PKind → Bool
-  is_typed f (Set to e) = has_type f.slots (slot_type f.slots to) e
-  is_typed f (Load to base index field) = is_int f index && agree (slot_type f.slots to) (reached f base field)
-  is_typed f (Store base index field e) = is_int f index && is_value (reached f base field) && has_type f.slots (reached f base field) e
-  is_typed f (Calloc to count type) =
-      is_int f count && is_known (with_structs f.program.structs) type.base && agree (slot_type f.slots to) (Pointer type.base type.stars)
-  is_typed f (Call to function args) = not (function == f.program.main) && callee_fits f.slots to (slice_get f.program.funcs function) args
-  is_typed f (If' e n body m other) = is_int f e && row_is_typed f body && row_is_typed f other
-  is_typed f (While' n head e m body) = row_is_typed f head && is_int f e && row_is_typed f body
-  is_typed f (Cobegin' n blocks) = branches_are_typed f blocks
-  is_typed f (Foreach index low high step branch) =
-      is_number (slot_type f.slots index) && is_int f low && is_int f high && branch_is_typed f branch
-  is_typed f (Print e) = is_int f e
-  is_typed f (Return e) = return_fits f.slots f.result e
-
-  pub row_is_typed : {n : _} → Frame → Row_of-PStmt n → Bool
-  row_is_typed f end_of-PStmt = true
-  row_is_typed f (more_of-PStmt at kind rest) = is_typed f kind && row_is_typed f rest
-
-  pub branch_is_typed : Frame → Branch → Bool
-  branch_is_typed f (Branch' at n body) = row_is_typed f body
-
-  pub branches_are_typed : {n : _} → Frame → Row_of-Branch n → Bool
-  branches_are_typed f end_of-Branch = true
-  branches_are_typed f (more_of-Branch branch rest) = branch_is_typed f branch && branches_are_typed f rest
-
-abbrev pub all_are_typed : Frame → List PStmt → Bool
-all_are_typed f [] = true
-all_are_typed f (s ∷ body) = is_typed f s.kind && all_are_typed f body
+-- each slot, function, struct and field that a statement itself names is there, its types agree, and `main` isn't called
+abbrev pub is_typed : PProgram → PFunc → PKind → Bool
+is_typed p f (Set to e) = fits f.slots (slot_type f.slots to) e
+is_typed p f (Load to base index field) = fits f.slots Number index && agree (slot_type f.slots to) (reached p f base field)
+is_typed p f (Store base index field e) = fits f.slots Number index && is_value (reached p f base field) && fits f.slots (reached p f base field) e
+is_typed p f (Calloc to count type) =
+    fits f.slots Number count && is_known (with_structs p.structs) type.base && agree (slot_type f.slots to) (Pointer type.base type.stars)
+is_typed p f (Call to function args) = not (function == p.main) && call_fits f.slots to (slice_get p.funcs function) args
+is_typed p f (If' e n body m other) = fits f.slots Number e
+is_typed p f (While' n head e m body) = fits f.slots Number e
+is_typed p f (Cobegin' n blocks) = true
+is_typed p f (Foreach index low high step branch) =
+    is_number (slot_type f.slots index) && fits f.slots Number low && fits f.slots Number high
+is_typed p f (Print e) = fits f.slots Number e
+is_typed p f (Return e) = return_fits f.slots f.result e

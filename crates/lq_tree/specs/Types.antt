@@ -1,7 +1,7 @@
 -- The types of expressions (docs/LANGUAGE.md, "Types").
-use Rattle.std.specs.Prelude.{ℕ, zero, suc, Bool, true, false, ◌==◌, length, if◌then◌else◌, List, fold, find, Option, None, Some, option_and_then}
+use Rattle.std.specs.Prelude.{ℕ, zero, suc, Bool, true, false, ◌==◌, length, if◌then◌else◌, List, fold, Option, None, Some}
 use Rattle.std.specs.Option.{is_some}
-use Rattle.std.specs.Cmp.Lexicographic.{pointwise}
+use Rattle.std.specs.List.{list_any}
 use Rattle.lq_tree.specs.declared.expr.Base.{Base}
 use Rattle.lq_tree.specs.declared.expr.Base.TheVariants.{Int, Struct}
 use Rattle.lq_tree.specs.declared.expr.CType.{CType}
@@ -9,13 +9,9 @@ use Rattle.lq_tree.specs.declared.expr.BinOp.{BinOp}
 use Rattle.lq_tree.specs.declared.expr.BinOp.TheVariants.{Add, Sub}
 use Rattle.lq_tree.specs.declared.expr.Expr.{Expr, Num, Var, Neg', Not', Bin', Index', Deref', Arrow', Dot', Call', Calloc', Row_of-Expr, end_of-Expr, more_of-Expr}
 use Rattle.lq_tree.specs.declared.program.Program.{Program}
-use Rattle.lq_tree.specs.declared.program.StructDef.{StructDef}
 use Rattle.lq_tree.specs.declared.program.Func.{Func}
 use Rattle.lq_tree.specs.declared.program.Param.{Param}
-
--- two names are the same
-abbrev pub same : List ℕ → List ℕ → Bool
-same a b = pointwise ◌==◌ a b
+pub use Rattle.lq_tree.specs.Lookup.{same, struct_of, function_of, field_among, field_of}
 
 -- what is known of the type of an expression or a variable
 pub data Ty : Type 0 where
@@ -60,21 +56,9 @@ or_later name found v = if same v.name name then v.type else found
 abbrev pub type_in : List Variable → List ℕ → Ty
 type_in scope name = fold (or_later name) Unknown scope
 
--- the struct of a name: of two the first one is meant
-abbrev pub struct_of : List StructDef → List ℕ → Option StructDef
-struct_of structs name = find (λ (s : StructDef). same s.name name) structs
-
--- the function of a name: of two the first one is meant
-abbrev pub function_of : List Func → List ℕ → Option Func
-function_of funcs name = find (λ (f : Func). same f.name name) funcs
-
--- the field of a name: of two the first one is meant
-abbrev pub field_among : List Param → List ℕ → Option Param
-field_among fields name = find (λ (f : Param). same f.name name) fields
-
--- the field of a struct, both by name
-abbrev pub field_of : Program → (struct field : List ℕ) → Option Param
-field_of p struct field = option_and_then (λ (s : StructDef). field_among s.fields field) (struct_of p.structs struct)
+-- the name is in scope
+abbrev pub is_in_scope : List Variable → List ℕ → Bool
+is_in_scope scope name = list_any (λ (v : Variable). same v.name name) scope
 
 -- it is an int
 abbrev pub is_number : Ty → Bool

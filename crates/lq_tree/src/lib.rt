@@ -4,23 +4,33 @@
 
 mod boxed;
 mod expr;
+mod laws;
 mod limit;
+mod lookup;
 mod name;
 mod place;
 mod plain;
 mod program;
+mod scope;
+mod step;
 mod stmt;
 #[cfg(test)]
 mod tests;
 mod trap;
+mod types;
 
 pub use boxed::Boxed;
 pub use expr::{Base, BinOp, CType, Expr};
-pub use limit::Limit;
+pub use laws::numbers_tell_quantities;
+pub use limit::{Limit, Quantity};
+pub use lookup::{field_of, function_of, same, struct_of};
 pub use name::Name;
 pub use place::{Place, place_of};
 pub use plain::{Branch, PExpr, PFunc, PKind, PProgram, PStmt, Slot};
 pub use program::{Func, Param, Program, StructDef};
+pub use scope::{Variable, is_in_scope, type_in_scope};
 pub use sqlite_items::Items;
+pub use step::is_step;
 pub use stmt::{Arm, Stmt, StmtKind};
 pub use trap::TrapKind;
+pub use types::{ExprType, declared, is_known, type_of};

@@ -33,5 +33,6 @@ pub enum StmtKind {
     Return(Option<Expr>),
     Print(Expr),
     Cobegin(Items<Stmt>),
-    Foreach(Name, Expr, Expr, Boxed<Stmt>),
+    /// The index, the low and the high end, the step, and the block.
+    Foreach(Name, Expr, Expr, i64, Boxed<Stmt>),
 }

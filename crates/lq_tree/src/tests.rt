@@ -1,4 +1,4 @@
-use crate::{Boxed, Expr, Name, Place, place_of};
+use crate::{Boxed, Expr, Limit, Name, Place, Quantity, is_step, place_of};
 use std::test::Fail;
 
 #[test]
@@ -54,4 +54,35 @@ fn keeps_boxed_values(rt: HostRuntime) -> Result<(), Fail> {
     };
     assert_eq!(rt; found, Some(5));
     Ok(())
+}
+
+#[test]
+fn tells_limits(rt: HostRuntime) -> Result<(), Fail> {
+    assert_eq!(rt; Quantity::numbered(0), None);
+    assert_eq!(rt; Quantity::numbered(1), Some(Quantity::SourceBytes));
+    assert_eq!(rt; Quantity::numbered(18), Some(Quantity::Arms));
+    assert_eq!(rt; Quantity::numbered(19), None);
+    let branches = Quantity::numbered(14).ok_or("no quantity")?;
+    assert_eq!(rt; branches.to_string(rt.alloc())?.as_str(), "branches");
+    assert_eq!(rt; branches.check(16), Ok(()));
+    let limit = Limit {
+        which: 14,
+        found: 17,
+        allowed: 16,
+    };
+    assert_eq!(rt; branches.check(17), Err(limit));
+    Ok(())
+}
+
+#[test]
+fn tells_steps(rt: HostRuntime) {
+    for (step, answer) in [
+        (-1, false),
+        (0, false),
+        (1, true),
+        (65_536, true),
+        (65_537, false),
+    ] {
+        assert_eq!(rt; is_step(step), answer, "the step {step}");
+    }
 }

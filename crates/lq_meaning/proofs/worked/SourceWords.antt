@@ -116,8 +116,11 @@ for first condition third body = For' (held first) condition (held third) _ (stm
 abbrev pub cobegin : List Stmt → StmtKind
 cobegin blocks = Cobegin' (shape blocks) (stmts blocks)
 
+abbrev pub foreach_by : (step : ℕ) → String → (low high : Expr) → Stmt → StmtKind
+foreach_by step name low high body = Foreach' (codes name) low high (pos step) _ (stmts (body ∷ []))
+
 abbrev pub foreach : String → (low high : Expr) → Stmt → StmtKind
-foreach name low high body = Foreach' (codes name) low high _ (stmts (body ∷ []))
+foreach = foreach_by 1
 
 -- structs and functions
 abbrev pub param : CType → String → Param

@@ -25,3 +25,9 @@ pub mod Stores
 pub mod Sort
 pub mod TrapKinds
 pub mod MoreTraps
+pub mod Steps
+pub mod Turns
+pub mod Equals
+pub mod FullInput
+pub mod FirstTrap
+pub mod Most

@@ -184,6 +184,15 @@ fn put_arms(alloc: Global, out: &mut Vec<u8>, arms: &[Arm], depth: u32) -> Resul
     Ok(())
 }
 
+// The condition of a `for`, or `-` where there is none.
+fn put_condition(alloc: Global, out: &mut Vec<u8>, cond: Option<&Expr>) -> Result<(), AllocError> {
+    match cond {
+        Some(cond) => put_expr(alloc, out, cond, DEPTH)?,
+        None => put(out, "-")?,
+    }
+    put(out, " ")
+}
+
 // A part of the head of a `for`, or `-` where there is none.
 #[cycle(statements)]
 fn put_head(
@@ -197,6 +206,47 @@ fn put_head(
         None => put(out, "-")?,
     }
     put(out, " ")
+}
+
+// A loop, or a statement without a body.
+#[cycle(statements)]
+fn put_loop(
+    alloc: Global,
+    out: &mut Vec<u8>,
+    kind: &StmtKind,
+    depth: u32,
+) -> Result<(), AllocError> {
+    match kind {
+        StmtKind::While(cond, body) => {
+            put(out, "(while ")?;
+            put_expr(alloc, out, cond, DEPTH)?;
+            put(out, " ")?;
+            put_stmt(alloc, out, &body.get().kind, depth)?;
+            put(out, ")")
+        }
+        StmtKind::For(first, cond, third, body) => {
+            put(out, "(for ")?;
+            put_head(alloc, out, first.as_ref().map(|part| part.get()), depth)?;
+            put_condition(alloc, out, cond.as_ref())?;
+            put_head(alloc, out, third.as_ref().map(|part| part.get()), depth)?;
+            put_stmt(alloc, out, &body.get().kind, depth)?;
+            put(out, ")")
+        }
+        StmtKind::Foreach(index, low, high, step, body) => {
+            put(out, "(foreach ")?;
+            put_name(out, index)?;
+            put(out, " ")?;
+            put_expr(alloc, out, low, DEPTH)?;
+            put(out, " ")?;
+            put_expr(alloc, out, high, DEPTH)?;
+            put(out, " ")?;
+            out.extend_from_slice(step.to_string(alloc)?.as_bytes())?;
+            put(out, " ")?;
+            put_stmt(alloc, out, &body.get().kind, depth)?;
+            put(out, ")")
+        }
+        part => put_part(alloc, out, part),
+    }
 }
 
 #[cycle(statements)]
@@ -224,42 +274,12 @@ fn put_stmt(
             }
             put(out, ")")
         }
-        StmtKind::While(cond, body) => {
-            put(out, "(while ")?;
-            put_expr(alloc, out, cond, DEPTH)?;
-            put(out, " ")?;
-            put_stmt(alloc, out, &body.get().kind, below)?;
-            put(out, ")")
-        }
-        StmtKind::For(first, cond, third, body) => {
-            put(out, "(for ")?;
-            put_head(alloc, out, first.as_ref().map(|part| part.get()), below)?;
-            match cond {
-                Some(cond) => put_expr(alloc, out, cond, DEPTH)?,
-                None => put(out, "-")?,
-            }
-            put(out, " ")?;
-            put_head(alloc, out, third.as_ref().map(|part| part.get()), below)?;
-            put_stmt(alloc, out, &body.get().kind, below)?;
-            put(out, ")")
-        }
         StmtKind::Cobegin(branches) => {
             put(out, "(cobegin ")?;
             put_all(alloc, out, branches.as_slice(), below)?;
             put(out, ")")
         }
-        StmtKind::Foreach(index, low, high, body) => {
-            put(out, "(foreach ")?;
-            put_name(out, index)?;
-            put(out, " ")?;
-            put_expr(alloc, out, low, DEPTH)?;
-            put(out, " ")?;
-            put_expr(alloc, out, high, DEPTH)?;
-            put(out, " ")?;
-            put_stmt(alloc, out, &body.get().kind, below)?;
-            put(out, ")")
-        }
-        part => put_part(alloc, out, part),
+        other => put_loop(alloc, out, other, below),
     }
 }
 

@@ -3,7 +3,7 @@ use Rattle.std.specs.List.{list_any}
 use Rattle.lq_tree.specs.declared.expr.Expr.{Expr, out-Expr}
 use Rattle.lq_names.specs.Calls.{node_does, expression_does}
 use Rattle.lq_names.specs.Seen.{is_among}
-use Rattle.lq_names.proofs.NodeLaws.{nodes_num, nodes_var, nodes_neg, nodes_not, nodes_bin, nodes_index, nodes_deref, nodes_arrow, nodes_dot, nodes_call, nodes_calloc}
+use Rattle.lq_tree.proofs.NodeLaws.{nodes_num, nodes_var, nodes_neg, nodes_not, nodes_bin, nodes_index, nodes_deref, nodes_arrow, nodes_dot, nodes_call, nodes_calloc}
 use Rattle.lq_names.proofs.AnyLaws.{any_more, any_end, any_through, any_none, any_one, any_two}
 use Rattle.lq_names.proofs.effects.+effects_of_expressions.Goals as goal
 

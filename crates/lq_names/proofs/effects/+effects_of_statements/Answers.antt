@@ -65,7 +65,7 @@ stmt_does-returns-in-While t c = λ s. some_while (λ (k : StmtKind). statement_
     (c.stmt_does.ensures s ∙ ap (λ (b : Stmt). list_any (placed_does c.args.effect (is_among c.args.names.now)) (sites_of s b)) c.get.ensures)
 
 pub stmt_does-returns-in-Foreach : goal.stmt_does-returns-in-Foreach
-stmt_does-returns-in-Foreach t c = λ s. some_foreach (λ (k : StmtKind). statement_does c.args.effect (is_among c.args.names.now) (out-StmtKind k)) s c.args.stmt.now.at c.args.stmt.now.kind c.in-Foreach.field-0 c.in-Foreach.field-1 c.in-Foreach.field-2 c.in-Foreach.body c.itself_does-own.result c.stmt_does-in-Foreach.result c.in-Foreach.is c.itself_does-own.ensures
+stmt_does-returns-in-Foreach t c = λ s. some_foreach (λ (k : StmtKind). statement_does c.args.effect (is_among c.args.names.now) (out-StmtKind k)) s c.args.stmt.now.at c.args.stmt.now.kind c.in-Foreach.field-0 c.in-Foreach.field-1 c.in-Foreach.field-2 c.in-Foreach.field-3 c.in-Foreach.body c.itself_does-own.result c.stmt_does-in-Foreach.result c.in-Foreach.is c.itself_does-own.ensures
     (c.stmt_does-in-Foreach.ensures (iteration s c.in-Foreach.field-0) ∙ ap (λ (b : Stmt). list_any (placed_does c.args.effect (is_among c.args.names.now)) (sites_of (iteration s c.in-Foreach.field-0) b)) c.get-in-Foreach.ensures)
 
 pub stmt_does-returns-in-For : goal.stmt_does-returns-in-For

@@ -13,5 +13,6 @@ returns c = sym (step c.args.at c.args.found 1 _ c.note-found.ensures c.s1.ensur
     ∙ step c.args.at c.note-found-7.result 9 _ c.note-found-8.ensures c.s9.ensures
     ∙ step c.args.at c.note-found-8.result 10 _ c.note-found-9.ensures c.s10.ensures
     ∙ step c.args.at c.note-found-9.result 11 _ c.note-found-10.ensures c.s11.ensures
-    ∙ step c.args.at c.note-found-10.result 12 _ c.note.ensures c.s12.ensures
+    ∙ step c.args.at c.note-found-10.result 12 _ c.note-found-11.ensures c.s12.ensures
+    ∙ step c.args.at c.note-found-11.result 13 _ c.note.ensures c.s13.ensures
     ∙ noted_none _ _)

@@ -146,7 +146,7 @@ in_statement-returns-in-Foreach-clause-found t c =
     let s = frame_site c.args.frame c.args.scope.now.items in
     let at = c.args.stmt.now.at in
     let kind = c.args.stmt.now.kind in
-    IfOk-weaker _ _ _ (λ r e. in_foreach s at c.args.found kind c.in-Foreach.index c.in-Foreach.field-1 c.in-Foreach.field-2 c.in-Foreach.body c.at_itself-first-in-Foreach.result r c.in-Foreach.is
+    IfOk-weaker _ _ _ (λ r e. in_foreach s at c.args.found kind c.in-Foreach.index c.in-Foreach.field-1 c.in-Foreach.field-2 c.in-Foreach.field-3 c.in-Foreach.body c.at_itself-first-in-Foreach.result r c.in-Foreach.is
     (c.at_itself-first-in-Foreach.ensures ∙ ap (λ (all : List Variable). noted at c.args.found (statement_rules (frame_site c.args.frame all) (out-StmtKind kind))) c.as_slice-in-Foreach.ensures.value)
     (e ∙ ap (λ (b : Stmt). gathered c.at_itself-first-in-Foreach.result (sites_of (iteration s c.in-Foreach.index) b)) c.get-in-Foreach.ensures)) c.in_iteration.ensures.found
 

@@ -3,7 +3,7 @@ use Rattle.std.specs.List.{flat_map}
 use Rattle.lq_tree.specs.declared.expr.Expr.{Expr}
 use Rattle.lq_names.specs.Faults.{noted, expression_rules}
 use Rattle.lq_names.specs.Seen.{at_site}
-use Rattle.lq_names.proofs.NodeLaws.{nodes_num, nodes_var, nodes_neg, nodes_not, nodes_bin, nodes_index, nodes_deref, nodes_arrow, nodes_dot, nodes_call, nodes_calloc}
+use Rattle.lq_tree.proofs.NodeLaws.{nodes_num, nodes_var, nodes_neg, nodes_not, nodes_bin, nodes_index, nodes_deref, nodes_arrow, nodes_dot, nodes_call, nodes_calloc}
 use Rattle.lq_names.proofs.WalkLaws.{through, none, one, two, one_more, at_end}
 use Rattle.lq_names.proofs.walk.+expressions.Goals as goal
 

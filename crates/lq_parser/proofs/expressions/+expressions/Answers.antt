@@ -1,3 +1,4 @@
+use Rattle.lq_parser.proofs.Onward.{err_by, ok_by}
 use Rattle.lq_parser.proofs.ExpressionRules.{allocates, allocates_count, allocates_open, allocates_type, begins_suc, calls_on, calls_stop, chains, chains_stop, complete_closed, ends_chain, ends_tail, fails_closed, fails_element, fails_first, fails_member, fails_next, fails_primary, fails_right, fails_through, goes_first, goes_first_stop, goes_on, goes_on_stop, joins, joins_left, joins_stop, lacks_suc, leads_allocated, leads_closed, leads_ended, leads_member, leads_minus, leads_named, leads_none, leads_not, leads_number, leads_parens, leads_postfix, leads_primary, leads_star, leads_through, tails_element, tails_element_stop, tightest, tightest_stop, variable_on}
 use Rattle.lq_parser.specs.declared.lexeme.Sign.TheVariants.{RightParen}
 use Rattle.std.proofs.Common.{arith, rules, suc, sym, w64, ◌-◌, ◌≡◌}
@@ -7,7 +8,6 @@ use Rattle.std.proofs.lemmas.Result.{err_from_is_err_and}
 use Rattle.lq_parser.proofs.Leads.{done_one, fails_makes, fails_one, leads_makes, leads_one, stuck_one}
 use Rattle.lq_parser.proofs.Exits.{missing, passes}
 use Rattle.lq_parser.proofs.Cuts.{done_under, fails_under}
-use Rattle.lq_parser.proofs.ExpressionCuts.{err_by, ok_by}
 use Rattle.lq_parser.proofs.expressions.+expressions.Goals as goal
 
 -- ---- closed

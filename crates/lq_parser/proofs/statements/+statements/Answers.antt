@@ -1,4 +1,6 @@
-use Rattle.std.proofs.Common.{[], ap, arith, length, ◌++◌, ◌∷◌}
+use Rattle.std.proofs.Common.{[], ap, arith, length, rules, w64, ◌++◌, ◌∷◌}
+use Rattle.std.specs.Int.RustNames.{FitsSigned}
+use Rattle.std.proofs.lemmas.Int.{to_z-of_z}
 use Rattle.std.proofs.lemmas.Result.{err_from_is_err_and}
 use Rattle.lq_parser.proofs.Leads.{complete_makes, complete_name, complete_then, done_nothing, done_one, fails_makes, fails_then, leads_makes, leads_name, leads_on, leads_one, leads_then, stuck_name, stuck_one}
 use Rattle.lq_parser.proofs.Cuts.{done_under, fails_before, fails_under, leads_before, leads_cut}
@@ -9,7 +11,7 @@ use Rattle.lq_parser.proofs.Onward.{goes_on, goes_under, not_there, stops_on, st
 use Rattle.lq_parser.proofs.FlatRules.{flat_some}
 use Rattle.lq_parser.proofs.Firsts.{complete_expression}
 use Rattle.lq_parser.proofs.IfRules.{complete_branches, complete_elses, complete_second, leads_arm, leads_closed_branches, leads_else, leads_last, leads_one_branch, leads_over, leads_the_cobegin, leads_the_if}
-use Rattle.lq_parser.proofs.LoopRules.{bounds_follow, complete_behind_bounds, complete_behind_condition, complete_behind_first, complete_behind_index, complete_behind_low, complete_closed, low_follows}
+use Rattle.lq_parser.proofs.LoopRules.{bounds_follow, complete_behind_bounds, complete_behind_condition, complete_behind_first, complete_behind_index, complete_behind_low, complete_behind_step, complete_closed, low_follows, step_follows}
 use Rattle.lq_parser.proofs.statements.+statements.Goals as goal
 
 -- ---- block
@@ -375,18 +377,26 @@ foreach_behind_index-returns-clause-stops t c = stops_on (leads_on (leads_one c.
 
 -- ---- foreach_behind_bounds
 
+pub foreach_behind_bounds-returns-in_err-step-clause-stops : goal.foreach_behind_bounds-returns-in_err-step-clause-stops
+foreach_behind_bounds-returns-in_err-step-clause-stops t c =
+    let p = err_from_is_err_and c.from_residual.result c.from_residual.ensures.1 in
+    rw (p.1, p.2) (passes c.in_err-step.field-0.0 c.in_err-step.ensures.stops
+    (λ end f. fails_before (step_follows _ _ _) (complete_behind_step _ _ _) f))
+
 pub foreach_behind_bounds-returns-in_err-rest-clause-stops : goal.foreach_behind_bounds-returns-in_err-rest-clause-stops
 foreach_behind_bounds-returns-in_err-rest-clause-stops t c =
-    let p = err_from_is_err_and c.from_residual.result c.from_residual.ensures.1 in
+    let p = err_from_is_err_and c.from_residual-in_err-rest.result c.from_residual-in_err-rest.ensures.1 in
     rw (p.1, p.2) (missing c.in_err-rest.field-0.0 c.in_err-rest.ensures.missing
-    (λ lacks. stuck_one (complete_makes complete_branch) lacks))
+    (λ lacks. (leads_before (step_follows _ _ _) c.in_ok-step.ensures.done).fails _ (stuck_one (complete_makes complete_branch) lacks)))
 
 pub foreach_behind_bounds-returns-in_err-body-clause-stops : goal.foreach_behind_bounds-returns-in_err-body-clause-stops
 foreach_behind_bounds-returns-in_err-body-clause-stops t c =
     let p = err_from_is_err_and c.from_residual-in_err-body.result c.from_residual-in_err-body.ensures.1 in
     rw (p.1, p.2) (passes c.in_err-body.field-0.0 c.in_err-body.ensures.stops
-    (λ end f. (leads_one c.in_ok-rest.ensures.found).fails _ (fails_makes (fails_under (λ next s. tt) f))))
+    (λ end f. (leads_before (step_follows _ _ _) c.in_ok-step.ensures.done).fails _ ((leads_one c.in_ok-rest.ensures.found).fails _ (fails_makes (fails_under (λ next s. tt) f)))))
 
 pub foreach_behind_bounds-returns-clause-done : goal.foreach_behind_bounds-returns-clause-done
-foreach_behind_bounds-returns-clause-done t c = rw (c.in_ok-parallel.ensures, c.in_ok-body-2.ensures)
-    ((leads_one c.in_ok-rest.ensures.found).done _ _ (leads_makes (done_under (λ next s. tt) c.in_ok-body.ensures.done)))
+foreach_behind_bounds-returns-clause-done t c =
+    let fits : FitsSigned w64 c.in_ok-step.step = search rules in
+    rw (c.in_ok-parallel.ensures, c.in_ok-body-2.ensures, to_z-of_z w64 c.in_ok-step.step fits)
+    ((leads_before (step_follows _ _ _) c.in_ok-step.ensures.done).done _ _ ((leads_one c.in_ok-rest.ensures.found).done _ _ (leads_makes (done_under (λ next s. tt) c.in_ok-body.ensures.done))))
