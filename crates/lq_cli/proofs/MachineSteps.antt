@@ -1,5 +1,5 @@
 -- How the machine of a slice makes the steps of its run.
-use Rattle.std.proofs.Common.{◌≡◌, ℕ, ◌+◌, ◌<◌, ℤ, pos, List, ◌∷◌, length, drop, get_or, refl, sym, ap, ◌∙◌, add-one}
+use Rattle.std.proofs.Common.{◌≡◌, ℕ, ◌+◌, ◌<◌, ℤ, pos, List, ◌∷◌, length, drop, get_or, refl, sym, ap, ◌∙◌, add-one, arith}
 use Rattle.std.proofs.Math.Seq.{drop-cons}
 use Rattle.lq_meaning.specs.Memory.{address, with_word}
 use Rattle.lq_meaning.specs.World.{World, Store as StoreWord, Answers, act, stored, counted}
@@ -40,4 +40,4 @@ stores_go_on fuel picks stores i rest old new left printed here below a within m
 pub stores_spent : (fuel : ℕ) (picks : List ℕ) (stores : List Store) (i : ℕ) (rest : Task) (w : World) → i < length stores → w.cost ≡ fuel → rest_of_run fuel picks (stores_then array (drop i stores) rest) w ≡ spent w
 stores_spent fuel picks stores i rest w here cost =
     ap (λ ss. rest_of_run fuel picks (stores_then array ss rest) w) (drop_is stores i no_store here)
-    ∙ spent_ends fuel picks (stores_then array (get_or stores i no_store ∷ drop (i + 1) stores) rest) w cost (λ due. refl)
+    ∙ spent_ends fuel picks (stores_then array (get_or stores i no_store ∷ drop (i + 1) stores) rest) w cost (omega arith)

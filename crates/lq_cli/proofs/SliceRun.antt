@@ -1,5 +1,5 @@
 -- How the statements of a slice run behind its `calloc`, and the whole run with it.
-use Rattle.std.proofs.Common.{◌≡◌, ℕ, zero, suc, ◌-◌, ◌*◌, ◌<◌, ◌≤◌, ℤ, pos, Bool, true, false, cond, List, [], ◌++◌, drop, Option, None, Some, Result, Ok, Err, refl, sym, ap, ◌∙◌, subst, arith, append_assoc}
+use Rattle.std.proofs.Common.{◌≡◌, ℕ, zero, suc, ◌-◌, ◌*◌, ◌<◌, ◌≤◌, ℤ, pos, Bool, true, false, cond, List, [], ◌++◌, drop, Option, Result, Ok, Err, refl, sym, ap, ◌∙◌, subst, arith, append_assoc}
 use Rattle.std.specs.Prelude.{nat_lt, All, IfOk, IsErrOf}
 use Rattle.std.proofs.lemmas.Bool.Decides.{nat_tests}
 use Rattle.std.proofs.Math.ListN.{length-replicate}
@@ -14,7 +14,7 @@ use Rattle.lq_tree.specs.declared.trap.TrapKind.TheVariants.{Words}
 use Rattle.lq_meaning.specs.End.{Tells, IsOfRun, IsSinkFault}
 use Rattle.lq_meaning.specs.Memory.{with_block}
 use Rattle.lq_meaning.specs.World.{World, Allocate, Answers, Traps, act, counted, take_words}
-use Rattle.lq_meaning.specs.Ending.{Trap, Outcome, Trapped, Spent}
+use Rattle.lq_meaning.specs.Ending.{Outcome, Done, Trapped, Spent}
 use Rattle.lq_meaning.specs.Entry.{start}
 use Rattle.lq_cli.specs.declared.machine.Machine.{Machine}
 use Rattle.lq_cli.specs.declared.slice.Store.{Store}
@@ -23,39 +23,35 @@ use Rattle.lq_cli.specs.declared.slice.Step.TheVariants.{Store as StoreStep, Pri
 use Rattle.lq_cli.specs.declared.slice.Slice.{Slice}
 use Rattle.lq_cli.specs.Literal.{step_index}
 use Rattle.lq_machine.specs.Task.{Ended, resumed}
-use Rattle.lq_machine.specs.Run.{run, then_run, other_picks, ending_of}
+use Rattle.lq_machine.specs.Run.{run, other_picks}
+use Rattle.lq_machine.proofs.Runs.{outcome_behind, run-step, run-ended}
+use Rattle.lq_machine.proofs.Printed.{run_adds}
 use Rattle.lq_cli.specs.Run.{spot, run_slice, task_of, stores_then, blocks_then, steps_then}
 use Rattle.lq_cli.specs.Machine.{IsArray, array, array_len, world_of, rest_of_run, spent, behind_calloc, RunsOn, GoesOn, StepWithin, end_of}
 use Rattle.lq_cli.specs.Lines.{number_lines}
-use Rattle.lq_cli.proofs.Printed.{run_adds}
 use Rattle.lq_cli.proofs.Rests.{due_goes_on}
 use Rattle.lq_cli.proofs.StepSteps.{number_lines-append}
 
--- a task that has ended ends the run
-run_ended : (fuel : ℕ) (picks : List ℕ) (trap : Option Trap) (w : World) → run fuel picks (Ended trap) w ≡ record { ending = ending_of trap; world = w }
-run_ended zero picks trap w = refl
-run_ended (suc fuel) picks trap w = refl
-
 -- the stores before the blocks come first
-pub stores_first : (s : Slice) (before : List Store) → before ≡ s.before → behind_calloc s ≡ stores_then array before (blocks_then array s.left.stores s.right.stores (steps_then array s.after (Ended None)))
-stores_first s before e = ap (λ (b : List Store). stores_then array b (blocks_then array s.left.stores s.right.stores (steps_then array s.after (Ended None)))) (sym e)
+pub stores_first : (s : Slice) (before : List Store) → before ≡ s.before → behind_calloc s ≡ stores_then array before (blocks_then array s.left.stores s.right.stores (steps_then array s.after (Ended Done)))
+stores_first s before e = ap (λ (b : List Store). stores_then array b (blocks_then array s.left.stores s.right.stores (steps_then array s.after (Ended Done)))) (sym e)
 
 -- and then the blocks
-pub blocks_next : (s : Slice) (left right : List Store) → left ≡ s.left.stores → right ≡ s.right.stores → blocks_then array s.left.stores s.right.stores (steps_then array s.after (Ended None)) ≡ blocks_then array left right (steps_then array s.after (Ended None))
+pub blocks_next : (s : Slice) (left right : List Store) → left ≡ s.left.stores → right ≡ s.right.stores → blocks_then array s.left.stores s.right.stores (steps_then array s.after (Ended Done)) ≡ blocks_then array left right (steps_then array s.after (Ended Done))
 blocks_next s left right l r =
-    ap (λ (b : List Store). blocks_then array b s.right.stores (steps_then array s.after (Ended None))) (sym l)
-    ∙ ap (λ (b : List Store). blocks_then array left b (steps_then array s.after (Ended None))) (sym r)
+    ap (λ (b : List Store). blocks_then array b s.right.stores (steps_then array s.after (Ended Done))) (sym l)
+    ∙ ap (λ (b : List Store). blocks_then array left b (steps_then array s.after (Ended Done))) (sym r)
 
 -- statements behind others that are made go on as the last of them
-pub steps_run_on : (fuel : ℕ) (picks : List ℕ) (s : Slice) (old middle new : Machine) (numbers : List ℤ) (result : Result Bool Put) → ((left : ℕ) (printed : List ℤ) → rest_of_run fuel picks (behind_calloc s) (world_of old left printed) ≡ rest_of_run fuel picks (steps_then array s.after (Ended None)) (world_of middle left printed)) → (after : List Step) → after ≡ s.after → GoesOn fuel picks after middle new numbers result → RunsOn fuel picks s old new numbers result
+pub steps_run_on : (fuel : ℕ) (picks : List ℕ) (s : Slice) (old middle new : Machine) (numbers : List ℤ) (result : Result Bool Put) → ((left : ℕ) (printed : List ℤ) → rest_of_run fuel picks (behind_calloc s) (world_of old left printed) ≡ rest_of_run fuel picks (steps_then array s.after (Ended Done)) (world_of middle left printed)) → (after : List Step) → after ≡ s.after → GoesOn fuel picks after middle new numbers result → RunsOn fuel picks s old new numbers result
 steps_run_on fuel picks s old middle new numbers (Ok true) before after e goes = λ left printed.
-    before left printed ∙ ap (λ ss. rest_of_run fuel picks (steps_then array ss (Ended None)) (world_of middle left printed)) (sym e) ∙ goes (Ended None) left printed ∙ run_ended _ _ None (world_of new left (printed ++ numbers))
+    before left printed ∙ ap (λ ss. rest_of_run fuel picks (steps_then array ss (Ended Done)) (world_of middle left printed)) (sym e) ∙ goes (Ended Done) left printed ∙ run-ended _ _ Done (world_of new left (printed ++ numbers))
 steps_run_on fuel picks s old middle new numbers (Ok false) before after e goes = λ left printed.
-    before left printed ∙ ap (λ ss. rest_of_run fuel picks (steps_then array ss (Ended None)) (world_of middle left printed)) (sym e) ∙ goes (Ended None) left printed
+    before left printed ∙ ap (λ ss. rest_of_run fuel picks (steps_then array ss (Ended Done)) (world_of middle left printed)) (sym e) ∙ goes (Ended Done) left printed
 steps_run_on fuel picks s old middle new numbers (Err fault) before after e goes = λ left printed.
-    let g = goes (Ended None) left printed in
+    let g = goes (Ended Done) left printed in
     let adds = run_adds (fuel - g.1.cost) (drop g.1.cost picks) g.0 g.1 in
-    (adds.0, ap (λ (o : Outcome). o.world.printed) (before left printed ∙ ap (λ ss. rest_of_run fuel picks (steps_then array ss (Ended None)) (world_of middle left printed)) (sym e) ∙ g.3) ∙ adds.1 ∙ ap (λ ns. ns ++ adds.0) g.2 ∙ append_assoc printed numbers adds.0)
+    (adds.0, ap (λ (o : Outcome). o.world.printed) (before left printed ∙ ap (λ ss. rest_of_run fuel picks (steps_then array ss (Ended Done)) (world_of middle left printed)) (sym e) ∙ g.3) ∙ adds.1 ∙ ap (λ ns. ns ++ adds.0) g.2 ∙ append_assoc printed numbers adds.0)
 
 -- where the fuel is spent, nothing was printed
 pub spent_runs_on : (fuel : ℕ) (picks : List ℕ) (s : Slice) (old new : Machine) → ((left : ℕ) (printed : List ℤ) → rest_of_run fuel picks (behind_calloc s) (world_of old left printed) ≡ spent (world_of new left printed)) → RunsOn fuel picks s old new [] (Ok false)
@@ -105,14 +101,15 @@ run_from_start fuel words picks s =
 pub run_goes_on : (fuel words : ℕ) (picks : List ℕ) (s : Slice) → 0 < fuel → 0 < s.count → s.count ≤ words → run_slice fuel words picks s ≡ rest_of_run fuel picks (behind_calloc s) (behind_start s.count words)
 run_goes_on fuel words picks s some count enough =
     run_from_start fuel words picks s
-    ∙ due_goes_on fuel picks (spot s.declaration) (Allocate (pos s.count) 1) (λ p. stores_then p s.before (blocks_then p s.left.stores s.right.stores (steps_then p s.after (Ended None)))) (start words) (behind_start s.count words) array some refl (allocates s.count words count enough)
+    ∙ due_goes_on fuel picks (spot s.declaration) (Allocate (pos s.count) 1) (λ p. stores_then p s.before (blocks_then p s.left.stores s.right.stores (steps_then p s.after (Ended Done)))) (start words) (behind_start s.count words) array some refl (allocates s.count words count enough)
 
 -- one whose array has none traps
 pub run_traps : (fuel words : ℕ) (picks : List ℕ) (s : Slice) → 0 < fuel → words < s.count → run_slice fuel words picks s ≡ record { ending = Trapped (record { kind = Words; at = s.declaration }); world = counted (start words) }
 run_traps zero words picks s some much = absurd (omega arith)
 run_traps (suc n) words picks s some much =
-    ap (λ a. then_run (resumed (spot s.declaration) (λ p. stores_then p s.before (blocks_then p s.left.stores s.right.stores (steps_then p s.after (Ended None)))) a) (run n (other_picks picks))) (allocates_too_much s.count words much)
-    ∙ run_ended n (other_picks picks) (Some (record { kind = Words; at = s.declaration })) (counted (start words))
+    run-step n picks (task_of s) (start words) (omega arith)
+    ∙ ap (λ a. outcome_behind (resumed (spot s.declaration) [] (λ p. stores_then p s.before (blocks_then p s.left.stores s.right.stores (steps_then p s.after (Ended Done)))) a) (run n (other_picks picks))) (allocates_too_much s.count words much)
+    ∙ run-ended n (other_picks picks) (Trapped (record { kind = Words; at = s.declaration })) (counted (start words))
 
 -- where there is no fuel, the `calloc` is not made
 pub run_without_fuel : (words : ℕ) (picks : List ℕ) (s : Slice) → run_slice 0 words picks s ≡ record { ending = Spent; world = start words }

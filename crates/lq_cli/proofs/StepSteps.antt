@@ -43,11 +43,11 @@ module _ (fuel : ℕ) (picks : List ℕ) (at : Place) (index : ℕ) (rest : Task
   pub print_spent : (new : Machine) → new.memory ≡ m.memory → IsSpentAt fuel m.cost new.cost → rest_of_run fuel picks (step_then array (PrintStep at index) rest) (world_of m left printed) ≡ spent (world_of new left printed)
   print_spent new memory (cost, when) = ⊎_elim
       (λ now.
-      spent_ends fuel picks (step_then array (PrintStep at index) rest) (world_of m left printed) now (λ due. refl)
+      spent_ends fuel picks (step_then array (PrintStep at index) rest) (world_of m left printed) now (omega arith)
       ∙ (let same : m.cost ≡ new.cost = omega arith in λ j. spent (record { memory = sym memory j; left = left; cost = same j; printed = printed })))
       (λ later.
       load_goes_on (omega arith)
-      ∙ spent_ends fuel picks (print_due (element m.memory index)) (counted (world_of m left printed)) later (λ due. refl)
+      ∙ spent_ends fuel picks (print_due (element m.memory index)) (counted (world_of m left printed)) later (omega arith)
       ∙ (let same : m.cost + 1 ≡ new.cost = omega arith in λ j. spent (record { memory = sym memory j; left = left; cost = same j; printed = printed })))
       when
 

@@ -20,7 +20,7 @@ use Rattle.lq_cli.specs.declared.ready.Stop.TheVariants.{Told}
 use Rattle.lq_cli.specs.Ready.{OnTold, TellsText}
 use Rattle.lq_cli.specs.Answer.{quantity_text, allowed_of, quantity_numbered}
 use Rattle.lq_tree.specs.declared.program.Program.{Program}
-use Rattle.lq_names.specs.Counts.{Count, count as number, counts, first_passed, most_fields, program_sizes, answer}
+use Rattle.lq_names.specs.Counts.{Count, counts, first_passed, most_fields, program_sizes, answer}
 use Rattle.lq_cli.specs.declared.slice.Slice.{Slice}
 use Rattle.lq_cli.specs.Parentheses.{all_follow}
 use Rattle.lq_cli.specs.Source.{program}
@@ -111,6 +111,10 @@ first_tells l c rest told more is =
 
 none_tells : (l : Limit) → first_passed [] ≡ Some l → Tells l
 none_tells l is = absurd cc
+
+-- a count by its place in the table, what was found and what is allowed
+abbrev number : (which found allowed : ℕ) → Count
+number which found allowed = record { which = which; found = found; allowed = allowed }
 
 six_tell : (a b c d e f : ℕ) (l : Limit)
     → first_passed (number 8 a 256 ∷ number 11 b 64 ∷ number 12 c 16 ∷ number 13 d 32 ∷ number 14 e 16 ∷ number 18 f 64 ∷ []) ≡ Some l → Tells l

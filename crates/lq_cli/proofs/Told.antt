@@ -5,7 +5,7 @@ use Rattle.lq_tree.specs.declared.place.Place.{Place}
 use Rattle.lq_shelf.specs.Sink.{Appends, AppendsPrefix}
 use Rattle.lq_shelf.proofs.Pieces.{Appends-append, AppendsPrefix-append, AppendsPrefix-more, AppendsPrefix-all}
 use Rattle.lq_meaning.specs.World.{World}
-use Rattle.lq_meaning.specs.Ending.{Trap, Done, Strayed, Outcome}
+use Rattle.lq_meaning.specs.Ending.{Ending, Done, Outcome}
 use Rattle.lq_cli.specs.Lines.{line, number_lines, trap}
 use Rattle.lq_shelf.specs.Shelf.{Holding}
 use Rattle.lq_cli.specs.declared.slice.Slice.{Slice}
@@ -13,37 +13,24 @@ use Rattle.lq_cli.specs.declared.ready.Ready.{Ready}
 use Rattle.lq_cli.specs.Answer.{IsLost}
 use Rattle.lq_cli.specs.Liquid.{Ends, done, trapped, spent, Tells, Begins, Means, interleaved, sequentially, Answers, with_slice, ran}
 use Rattle.lq_cli.specs.Ready.{IsReady}
-use Rattle.lq_machine.specs.Run.{ending_of, leaf_of, first_pick, other_picks, then_run, run}
+use Rattle.lq_machine.proofs.Alike.{IsSettled, done as is_done, trapped as is_trapped, spent as is_spent}
 use Rattle.lq_cli.specs.Run.{run_slice}
 use Rattle.lq_cli.specs.Source.{program}
-use Rattle.lq_cli.specs.Same.{Agree, PicksDoNotMatter}
-use Rattle.lq_machine.specs.Task.{Task, Ended, Due, Fork, Stepped, Moves, Leaves, step}
+use Rattle.lq_meaning.specs.Agree.{Agree}
+use Rattle.lq_cli.specs.Laws.{PicksDoNotMatter}
 use Rattle.lq_cli.proofs.Stopped.{is_of_slice}
 
 -- some answer is due for an outcome
 abbrev pub HasEnd : Outcome → Type 0
 HasEnd o = (status : ℕ) × (bytes : List ℕ) × Ends o status bytes
 
-ended : (trap : Option Trap) (w : World) → HasEnd (record { ending = ending_of trap; world = w })
-ended None w = (0, number_lines w.printed, done refl)
-ended (Some t) w = (1, number_lines w.printed ++ trap t, trapped refl)
-
--- behind a step that doesn't stray
-behind_step : (go : Task → World → Outcome) → ((task : Task) (w : World) → ((at : Place) → (go task w).ending ≢ Strayed at) → HasEnd (go task w)) →
-    (s : Stepped Task) → ((at : Place) → (then_run s go).ending ≢ Strayed at) → HasEnd (then_run s go)
-behind_step go ends (Moves task w) clean = ends task w clean
-behind_step go ends (Leaves at w) clean = absurd (clean at refl)
-
--- a run that doesn't stray ends by an answer
-pub has_end : (fuel : ℕ) (picks : List ℕ) (task : Task) (w : World) → ((at : Place) → (run fuel picks task w).ending ≢ Strayed at) → HasEnd (run fuel picks task w)
-has_end zero picks (Ended trap) w clean = ended trap w
-has_end zero picks (Due at action next) w clean = (8, number_lines w.printed ++ line (codes "out of fuel"), spent refl)
-has_end zero picks (Fork children behind) w clean = (8, number_lines w.printed ++ line (codes "out of fuel"), spent refl)
-has_end (suc fuel) picks (Ended trap) w clean = ended trap w
-has_end (suc fuel) picks (Due at action next) w clean =
-    behind_step (run fuel (other_picks picks)) (has_end fuel (other_picks picks)) (step (Due at action next) (leaf_of (first_pick picks) (Due at action next)) w) clean
-has_end (suc fuel) picks (Fork children behind) w clean =
-    behind_step (run fuel (other_picks picks)) (has_end fuel (other_picks picks)) (step (Fork children behind) (leaf_of (first_pick picks) (Fork children behind)) w) clean
+-- so it is for one that is settled
+pub has_end : (o : Outcome) → IsSettled o.ending → HasEnd o
+has_end o settled = by_ending o.ending settled refl where
+  by_ending : (ending : Ending) → IsSettled ending → o.ending ≡ ending → HasEnd o
+  by_ending _ is_done e = (0, number_lines o.world.printed, done e)
+  by_ending _ (is_trapped {trap = t}) e = (1, number_lines o.world.printed ++ trap t, trapped e)
+  by_ending _ is_spent e = (8, number_lines o.world.printed ++ line (codes "out of fuel"), spent e)
 
 -- the outcome of one list of picks, however it is written
 pub same_outcome : (p picks : List ℕ) (fuel words : ℕ) (s : Slice) → p ≡ picks → run_slice fuel words p s ≡ run_slice fuel words picks s

@@ -3,7 +3,7 @@ pub mod Source
 pub mod Slicing
 pub mod Run
 pub mod Literal
-pub mod Same
+pub mod Laws
 pub mod Command
 pub mod Parentheses
 pub mod Text

@@ -1,5 +1,5 @@
 -- How the machine of a slice stands for a run.
-use Rattle.std.specs.Prelude.{◌≡◌, ◌⊎◌, ℕ, ◌+◌, ◌-◌, ◌%◌, ◌<◌, ◌==◌, if◌then◌else◌, ℤ, pos, List, [], ◌∷◌, ◌++◌, length, drop, Option, None, Some, Bool, true, false, Result, Ok, Err}
+use Rattle.std.specs.Prelude.{◌≡◌, ◌⊎◌, ℕ, ◌+◌, ◌-◌, ◌%◌, ◌<◌, ◌==◌, if◌then◌else◌, ℤ, pos, List, [], ◌∷◌, ◌++◌, length, drop, Option, None, Some, Bool, true, false, Result, Ok, Err, IfOk}
 use Rattle.lq_meaning.specs.Word.{pointer}
 use Rattle.lq_meaning.specs.Memory.{Blocks, address, word_at, with_word}
 use Rattle.lq_meaning.specs.World.{World, Load, Store as StoreWord, Print as PrintNumber}
@@ -14,8 +14,10 @@ use Rattle.lq_shelf.specs.declared.sink.Put.TheVariants.{Failed, NoMemory}
 use Rattle.lq_cli.specs.declared.slice.Slice.{Slice}
 use Rattle.lq_machine.specs.Task.{Task, Ended, Due}
 use Rattle.lq_machine.specs.Run.{run}
+use Rattle.lq_cli.specs.Lines.{number_lines}
 use Rattle.lq_cli.specs.Run.{spot, stores_then, blocks_then, steps_then}
 use Rattle.lq_shelf.specs.declared.sink.Put.{Put}
+use Rattle.lq_shelf.specs.Sink.{Appends, AppendsPrefix}
 
 -- the array of a slice is the first block, and its pointer the answer of the `calloc`
 abbrev pub array : ℤ
@@ -95,7 +97,7 @@ GoesOn fuel picks steps old new numbers (Err fault) = (rest : Task) (left : ℕ)
 
 -- the task behind the `calloc` of a slice
 abbrev pub behind_calloc : Slice → Task
-behind_calloc s = stores_then array s.before (blocks_then array s.left.stores s.right.stores (steps_then array s.after (Ended None)))
+behind_calloc s = stores_then array s.before (blocks_then array s.left.stores s.right.stores (steps_then array s.after (Ended Done)))
 
 -- how the statements of a slice go on behind its `calloc`, where these numbers were printed
 abbrev pub RunsOn : (fuel : ℕ) → (picks : List ℕ) → Slice → Machine → Machine → List ℤ → Result Bool Put → Type 0
@@ -105,6 +107,11 @@ RunsOn fuel picks s old new numbers (Ok false) = (left : ℕ) (printed : List �
     rest_of_run fuel picks (behind_calloc s) (world_of old left printed) ≡ spent (world_of new left (printed ++ numbers))
 RunsOn fuel picks s old new numbers (Err fault) = (left : ℕ) (printed : List ℤ) →
     (more : List ℤ) × ((rest_of_run fuel picks (behind_calloc s) (world_of old left printed)).world.printed ≡ printed ++ (numbers ++ more))
+
+-- numbers of this kind were written, a line each; where a fault came between, the first bytes of these lines
+abbrev pub Writes : (written now : Option (List ℕ)) → Result Bool Put → (kind : List ℤ → Type 0) → Type 0
+Writes written now result kind =
+    (numbers : List ℤ) × IfOk result (λ _. Appends written now (number_lines numbers)) × AppendsPrefix written now (number_lines numbers) × kind numbers
 
 -- the end of a run by what its statements answer
 abbrev pub end_of : Machine → Result Bool Put → End

@@ -4,7 +4,7 @@ use Rattle.std.specs.Str.{bytes_eq}
 use Rattle.lq_lexer.specs.declared.token.Token.{Token}
 use Rattle.lq_lexer.specs.Tokens.{Tokens}
 use Rattle.lq_lexer.specs.Shape.{texts_of}
-use Rattle.lq_lexer.specs.Words.{is_among}
+use Rattle.lq_text.specs.Word.{is_among}
 
 -- what an opening parenthesis of the slice stands directly behind
 abbrev pub before_opening : List (List ℕ)

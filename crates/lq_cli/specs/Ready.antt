@@ -11,7 +11,8 @@ use Rattle.lq_cli.specs.declared.slice.Slice.{Slice}
 use Rattle.lq_cli.specs.declared.ready.Stop.{Stop}
 use Rattle.lq_cli.specs.declared.ready.Stop.TheVariants.{Told, NoMemory}
 use Rattle.lq_cli.specs.declared.ready.Ready.{Ready}
-use Rattle.lq_cli.specs.Answer.{allowed_of, status_of, line_of}
+use Rattle.lq_tree.specs.declared.limit.Limit.{Limit as PassedLimit}
+use Rattle.lq_cli.specs.Answer.{allowed_of, quantity_numbered, status_of, line_of}
 use Rattle.lq_cli.specs.Command.{Command}
 use Rattle.lq_cli.specs.Liquid.{Means, Fetched, Sourced, Picked, SliceAnswers, Answers}
 use Rattle.lq_cli.specs.Literal.{IsAccepted}
@@ -23,6 +24,10 @@ use Rattle.lq_cli.specs.Text.{Reads, TextAnswers}
 abbrev pub stop_of_picks : NumbersFault → Stop
 stop_of_picks (BadLine number) = Told (BadPickLine number)
 stop_of_picks NoNumbersMemory = NoMemory
+
+-- how a limit that is passed stops a command
+abbrev pub stop_of_limit : PassedLimit → Stop
+stop_of_limit l = Told (Limit (quantity_numbered l.which) l.found)
 
 -- what a stop tells, where it tells an answer
 abbrev pub OnTold : Stop → (Answer → Type 0) → Type 0

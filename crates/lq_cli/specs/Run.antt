@@ -1,8 +1,8 @@
 -- The run of a slice under a list of picks (docs/LANGUAGE.md, "Task tree" and "Steps and picks").
-use Rattle.std.specs.Prelude.{ℕ, ℤ, pos, List, [], ◌∷◌, Option, None, Some}
+use Rattle.std.specs.Prelude.{ℕ, ℤ, pos, List, [], ◌∷◌}
 use Rattle.lq_tree.specs.declared.place.Place.{Place}
-use Rattle.lq_meaning.specs.World.{World, Allocate, Load, Store as StoreWord, Print as PrintNumber}
-use Rattle.lq_meaning.specs.Ending.{Outcome}
+use Rattle.lq_meaning.specs.World.{Allocate, Load, Store as StoreWord, Print as PrintNumber}
+use Rattle.lq_meaning.specs.Ending.{Done, Outcome}
 use Rattle.lq_meaning.specs.Entry.{start}
 use Rattle.lq_machine.specs.Task.{Spot, Task, Ended, Due, none, more, forked}
 use Rattle.lq_machine.specs.Run.{run}
@@ -27,11 +27,11 @@ steps_then p (PrintStep at index ∷ steps) rest =
     Due (spot at) (Load p (pos index) 0) (λ number. Due (spot at) (PrintNumber number) (λ _. steps_then p steps rest))
 
 abbrev pub blocks_then : ℤ → (left right : List Store) → Task → Task
-blocks_then p left right rest = forked (more (stores_then p left (Ended None)) (more (stores_then p right (Ended None)) none)) rest
+blocks_then p left right rest = forked (more (stores_then p left (Ended Done)) (more (stores_then p right (Ended Done)) none)) rest
 
 abbrev pub task_of : Slice → Task
 task_of s =
-    Due (spot s.declaration) (Allocate (pos s.count) 1) (λ p. stores_then p s.before (blocks_then p s.left.stores s.right.stores (steps_then p s.after (Ended None))))
+    Due (spot s.declaration) (Allocate (pos s.count) 1) (λ p. stores_then p s.before (blocks_then p s.left.stores s.right.stores (steps_then p s.after (Ended Done))))
 
 -- the run of a slice under a list of picks
 abbrev pub run_slice : (fuel words : ℕ) → (picks : List ℕ) → Slice → Outcome

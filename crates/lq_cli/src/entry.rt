@@ -6,10 +6,10 @@ ghost use Rattle.lq_cli.specs.Liquid.{Answers, Ends, Lost, Tells, Begins, interl
 ghost use Rattle.lq_cli.specs.Run.{run_slice};
 
 use crate::answer::{Answer, NO_MEMORY, SINK_FAULT};
+use crate::laws::picks_do_not_matter;
 use crate::machine::Schedule;
 use crate::ready::{Ready, Stop, prepare};
 use crate::run::run;
-use crate::same::picks_do_not_matter;
 use lq_meaning::End;
 use lq_shelf::{Gate, Shelf, Sink};
 use std::alloc::Global;

@@ -4,12 +4,12 @@
 mod answer;
 mod command;
 mod entry;
+mod laws;
 mod literal;
 mod machine;
 mod parentheses;
 mod ready;
 mod run;
-mod same;
 mod slice;
 mod slicing;
 #[cfg(test)]
@@ -17,5 +17,5 @@ mod tests;
 mod text;
 
 pub use entry::liquid;
-pub use same::picks_do_not_matter;
+pub use laws::picks_do_not_matter;
 pub use slice::{Block, Slice, Step, Store};

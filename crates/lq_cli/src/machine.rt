@@ -82,7 +82,7 @@ impl Machine {
     ghost use Rattle.lq_meaning.specs.Memory.{address, with_word};
     ghost use Rattle.lq_cli.specs.Run.{stores_then, blocks_then};
     ghost use Rattle.lq_machine.specs.Task.{Task};
-    ghost use Rattle.lq_cli.specs.Machine.{IsArray, array, array_len, world_of, rest_of_run, spent, after_store, element, IsSpentAt, printed_by, after_print, StepWithin, step_then, GoesOn, RunsOn};
+    ghost use Rattle.lq_cli.specs.Machine.{IsArray, array, array_len, world_of, rest_of_run, spent, after_store, element, IsSpentAt, printed_by, after_print, StepWithin, step_then, GoesOn, RunsOn, Writes};
     ghost use Rattle.lq_cli.specs.Literal.{IsAccepted};
 
     // Writes an element of the array.
@@ -250,10 +250,8 @@ impl Machine {
         requires fuel { self.old.cost ≤ schedule.now.fuel }
         ensures failed { IsErrOf result Put.Failed → Rose (K.faults out.old) (K.faults out.new) }
         ensures other { (IsErrOf result Put.Failed → ⊥) → K.faults out.new ≡ K.faults out.old }
-        ensures prints { (numbers : List ℤ)
-            × IfOk result (λ _. Appends (K.written out.old) (K.written out.new) (number_lines numbers))
-            × AppendsPrefix (K.written out.old) (K.written out.new) (number_lines numbers)
-            × GoesOn schedule.now.fuel schedule.now.picks.now steps.now self.old self.new numbers result }
+        ensures prints { Writes (K.written out.old) (K.written out.new) result (λ numbers.
+            GoesOn schedule.now.fuel schedule.now.picks.now steps.now self.old self.new numbers result) }
     {
         for step in steps {
             if !self.step(alloc, schedule, step, out)? {
@@ -278,10 +276,8 @@ impl Machine {
         requires fuel { self.old.cost ≤ schedule.now.fuel }
         ensures failed { IsErrOf result Put.Failed → Rose (K.faults out.old) (K.faults out.new) }
         ensures other { (IsErrOf result Put.Failed → ⊥) → K.faults out.new ≡ K.faults out.old }
-        ensures prints { (numbers : List ℤ)
-            × IfOk result (λ _. Appends (K.written out.old) (K.written out.new) (number_lines numbers))
-            × AppendsPrefix (K.written out.old) (K.written out.new) (number_lines numbers)
-            × RunsOn schedule.now.fuel schedule.now.picks.now slice.now self.old self.new numbers result }
+        ensures prints { Writes (K.written out.old) (K.written out.new) result (λ numbers.
+            RunsOn schedule.now.fuel schedule.now.picks.now slice.now self.old self.new numbers result) }
     {
         let before = slice.before.as_slice();
         if !self.stores(schedule, before) {

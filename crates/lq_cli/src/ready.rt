@@ -12,6 +12,7 @@ use crate::slice::Slice;
 use crate::text::read_slice;
 use lq_shelf::{Fetch, Shelf};
 use lq_text::{NumbersFault, read_numbers_from};
+use lq_tree::Limit;
 use std::alloc::{AllocError, Global};
 
 /// What a run needs.
@@ -54,6 +55,18 @@ impl From<NumbersFault> for Stop<'_> {
             NumbersFault::BadLine { line } => Stop::Told(Answer::BadPickLine(line)),
             NumbersFault::NoMemory => Stop::NoMemory,
         }
+    }
+}
+
+impl From<Limit> for Stop<'_> {
+    ghost use Rattle.std.specs.Prelude.{◌≡◌};
+    ghost use Rattle.lq_cli.specs.Ready.{stop_of_limit};
+
+    ghost from_gives = { λ limit stop. stop ≡ stop_of_limit limit };
+
+    fn from(limit: Limit) -> Self {
+        let quantity = Quantity::numbered(limit.which);
+        Stop::Told(Answer::Limit(quantity, limit.found as usize))
     }
 }
 

@@ -1,11 +1,10 @@
 ghost use Rattle.std.specs.Prelude.{◌≡◌, ◌≤◌, ⊤, length, IfOk, MatchResult};
 ghost use Rattle.lq_lexer.specs.Tokens.{Tokens};
-ghost use Rattle.lq_cli.specs.Answer.{quantity_numbered};
 ghost use Rattle.lq_cli.specs.Liquid.{most_source_bytes};
 ghost use Rattle.lq_cli.specs.Ready.{HasSlice, OnTold, TellsText};
 ghost use Rattle.lq_cli.specs.Text.{Shaped, HasTree, IsCounted, IsNamed, Reads};
 
-use crate::answer::{Answer, Quantity};
+use crate::answer::Answer;
 use crate::parentheses::stand_as_in_slice;
 use crate::ready::Stop;
 use crate::slice::Slice;
@@ -14,7 +13,7 @@ use lq_lexer::laws::{tokens_are_one, tokens_lie_in_text};
 use lq_lexer::{LexFault, Token, check_shape, lex};
 use lq_names::{NamesFault, check_counts, check_names};
 use lq_parser::{ParseFault, parse};
-use lq_tree::{Limit, Program, place_of};
+use lq_tree::{Program, place_of};
 use std::alloc::Global;
 
 // The tokens of a text.
@@ -36,13 +35,7 @@ fn test_shape<'a>(text: &[u8], tokens: &[Token]) -> Result<(), Stop<'a>>
     ensures shaped { IfOk result (λ _. Shaped text.now tokens.now) }
     ensures told { MatchResult result (λ _. ⊤) (λ stop. OnTold stop (TellsText text.now)) }
 {
-    match check_shape(text, tokens) {
-        Ok(()) => Ok(()),
-        Err(Limit { which, found, .. }) => {
-            let quantity = Quantity::numbered(which);
-            Err(Stop::Told(Answer::Limit(quantity, found as usize)))
-        }
-    }
+    Ok(check_shape(text, tokens)?)
 }
 
 // The tree that the tokens of a text spell.
@@ -70,13 +63,7 @@ fn test_counts<'a>(text: &[u8], tree: &Program) -> Result<(), Stop<'a>>
     ensures counted { IfOk result (λ _. IsCounted tree.now) }
     ensures told { MatchResult result (λ _. ⊤) (λ stop. OnTold stop (TellsText text.now)) }
 {
-    match check_counts(tree) {
-        Ok(()) => Ok(()),
-        Err(Limit { which, found, .. }) => {
-            let quantity = Quantity::numbered(which);
-            Err(Stop::Told(Answer::Limit(quantity, found as usize)))
-        }
-    }
+    Ok(check_counts(tree)?)
 }
 
 // Tests the name rules of a tree.

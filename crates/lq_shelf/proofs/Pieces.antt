@@ -1,11 +1,12 @@
 -- How pieces that are written one after the other add up.
 use Rattle.std.proofs.Common.{◌≡◌, ℕ, ◌+◌, ◌≤◌, min, List, [], ◌++◌, length, take, Option, Some, None, refl, sym, ◌∙◌, ap, arith, append_assoc}
-use Rattle.std.specs.Prelude.{option_map, Result, Ok, Err, OnOk, IsErrOf}
+use Rattle.std.specs.Prelude.{option_map, Result, Ok, Err, OnOk, OnErr, IsErrOf}
 use Rattle.std.proofs.Math.Seq.{take-append-add, take-length}
 use Rattle.std.proofs.lemmas.List.{append-nil, take-append-le, take_min}
 use Rattle.lq_shelf.specs.declared.sink.Put.{Put}
 use Rattle.lq_shelf.specs.declared.sink.Put.TheVariants.{Failed, NoMemory}
 use Rattle.lq_shelf.specs.Sink.{Appends, AppendsPrefix}
+use Rattle.lq_shelf.specs.WriterSink.{AppendsPart}
 
 -- writing nothing leaves what is written
 pub Appends-nil : (w : Option (List ℕ)) → Appends w w []
@@ -43,3 +44,9 @@ pub AppendsPrefix-put : (answer : Result (Unit {0}) Put) (old new : Option (List
 AppendsPrefix-put (Ok done) old new bytes ok failed no_memory = AppendsPrefix-all old new bytes ok
 AppendsPrefix-put (Err Failed) old new bytes ok failed no_memory = failed refl
 AppendsPrefix-put (Err NoMemory) old new bytes ok failed no_memory = (0, no_memory refl ∙ Appends-nil old)
+
+-- Whatever is answered, a front of the bytes was written, where that is all of them at `Ok` and not all else.
+pub AppendsPrefix-written : {E : Type 0} → (answer : Result (Unit {0}) E) (old new : Option (List ℕ)) (bytes : List ℕ) → OnOk answer (Appends old new bytes)
+    → OnErr answer (AppendsPart old new bytes) → AppendsPrefix old new bytes
+AppendsPrefix-written (Ok done) old new bytes all part = AppendsPrefix-all old new bytes all
+AppendsPrefix-written (Err error) old new bytes all (count, less, front) = (count, front)

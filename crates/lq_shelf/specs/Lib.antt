@@ -1,6 +1,7 @@
 pub mod Faults
-pub mod FileShelf
 pub mod MemShelf
 pub mod MemSink
+pub mod ReaderShelf
 pub mod Shelf
 pub mod Sink
+pub mod WriterSink

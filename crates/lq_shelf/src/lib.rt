@@ -7,9 +7,11 @@ mod file_shelf;
 mod gate;
 mod mem_shelf;
 mod mem_sink;
+mod reader_shelf;
 mod shelf;
 mod sink;
 mod std_sink;
+mod writer_sink;
 
 pub use file_shelf::FileShelf;
 pub use gate::{Gate, OpenGate};

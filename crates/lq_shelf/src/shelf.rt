@@ -1,9 +1,12 @@
-ghost use Rattle.std.specs.Prelude.{◌≡◌, ◌≤◌, ℕ, List, length, IfOk, OnOk, IsErrOf};
-ghost use Rattle.lq_shelf.specs.declared.shelf.Fetch.TheVariants.{NoMemory};
+ghost use Rattle.std.specs.Prelude.{◌≡◌, ◌≢◌, ◌≤◌, ℕ, List, length, IfOk, OnOk, IsErrOf};
+ghost use Rattle.std.specs.IoError.{error_kind};
+ghost use Rattle.std.specs.declared.io.ErrorKind.TheVariants.{OutOfMemory};
+ghost use Rattle.lq_shelf.specs.declared.shelf.Fetch.TheVariants.{Failed, NoMemory};
 ghost use Rattle.lq_shelf.specs.Faults.{Rose};
 ghost use Rattle.lq_shelf.specs.Shelf.{Holding, AreFirstOf};
 
 use std::alloc::AllocError;
+use std::io::{self, ErrorKind};
 
 /// Why a fetch gives nothing.
 #[derive(Clone, Copy, Debug, PartialEq, Eq)]
@@ -19,6 +22,20 @@ impl From<AllocError> for Fetch {
 
     fn from(_: AllocError) -> Self {
         Fetch::NoMemory
+    }
+}
+
+/// Want of memory is told as such, and any other error as a fault.
+impl From<io::Error> for Fetch {
+    ghost from_gives = { λ error answer. (error_kind error ≡ OutOfMemory → answer ≡ NoMemory)
+        × (error_kind error ≢ OutOfMemory → answer ≡ Failed) };
+
+    fn from(error: io::Error) -> Self {
+        if error.kind() == ErrorKind::OutOfMemory {
+            Fetch::NoMemory
+        } else {
+            Fetch::Failed
+        }
     }
 }
 

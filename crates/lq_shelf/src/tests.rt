@@ -70,6 +70,8 @@ fn files_are_fetched(rt: HostRuntime) -> Result<(), Fail> {
     assert!(rt; gives(&mut shelf, "notes", 1 << 40, Some(b"some text")));
     assert!(rt; gives(&mut shelf, "notes", 4, Some(b"some")));
     assert!(rt; gives(&mut shelf, "nothing", 4, None));
+    // A folder opens, and can't be read.
+    assert!(rt; gives(&mut shelf, ".", 4, None));
     assert!(rt; gives(&mut shelf, "notes", 9, Some(b"some text")));
     Ok(())
 }

@@ -1,7 +1,7 @@
-use super::{replay, shelf};
-use crate::liquid;
-use lq_shelf::{MemSink, OpenGate};
+use super::{ample, status_of};
+use lq_shelf::MemSink;
 use std::alloc::{AllocError, Global};
+use std::process::Abort;
 use std::test::Fail;
 
 // What the bodies of the table may use, in lines 1 and 2. A body stands in line 3.
@@ -45,7 +45,7 @@ const KEPT: [(&str, u32, u32); 33] = [
     ("p=h(p);", 0, 0),
 ];
 
-const KEPT_TOO: [(&str, u32, u32); 32] = [
+const KEPT_TOO: [(&str, u32, u32); 34] = [
     ("p=h(0);", 0, 0),
     ("g(1);", 0, 0),
     ("v();", 0, 0),
@@ -78,6 +78,8 @@ const KEPT_TOO: [(&str, u32, u32); 32] = [
     ("foreach(i,0,1){int b;b=1;}", 0, 0),
     ("foreach(i,0,1){for(int k=0;k<1;k++);}", 0, 0),
     ("cobegin{{p[0]=1;}{}}", 0, 0),
+    ("foreach(i,0,9,1){}", 0, 0),
+    ("foreach(i,0,9,65536){}", 0, 0),
 ];
 
 const UNKNOWN: [(&str, u32, u32); 29] = [
@@ -169,7 +171,7 @@ const TYPES: [(&str, u32, u32); 27] = [
     ("s=p;", 5, 1),
 ];
 
-const TYPES_TOO: [(&str, u32, u32); 27] = [
+const TYPES_TOO: [(&str, u32, u32); 29] = [
     ("p=s->x;", 5, 1),
     ("a=s->y;", 5, 1),
     ("s->x=p;", 5, 1),
@@ -197,6 +199,8 @@ const TYPES_TOO: [(&str, u32, u32); 27] = [
     ("a=g(p,1);", 5, 1),
     ("a=v()*p;", 5, 1),
     ("a=p;a=b;", 5, 1),
+    ("int*q=-v();", 5, 1),
+    ("int*q=5+v();", 5, 1),
 ];
 
 const STRUCTS_AND_FORKS: [(&str, u32, u32); 21] = [
@@ -240,6 +244,14 @@ const LOOPS: [(&str, u32, u32); 16] = [
     ("return a;", 12, 1),
     ("if(a)return 1;", 12, 6),
     ("return p;", 12, 1),
+];
+
+const STEPS: [(&str, u32, u32); 5] = [
+    ("foreach(i,0,9,0){}", 13, 1),
+    ("foreach(i,0,9,65537){}", 13, 1),
+    ("foreach(i,0,9,9223372036854775807){}", 13, 1),
+    ("foreach(i,b,9,0){}", 3, 1),
+    ("{foreach(i,0,9,0){a=b;}}", 13, 2),
 ];
 
 // A program in one line, likewise.
@@ -295,6 +307,13 @@ const PROGRAMS: [(&str, u32, u32); 41] = [
     ("int f(int f){return f;}int main(){return f(1);}", 0, 0),
 ];
 
+// The head of a `foreach` with a step, and what stands before and behind the step.
+const BEFORE_STEP: &str =
+    "int main(int *in, int n) {\n  if (n < 1) { return 0; }\n  int *a = calloc(4 * n, sizeof(int));\n  foreach (i, 0, 4 * n - 3, ";
+
+const BEHIND_STEP: &str =
+    ") {\n    int j = 0;\n    while (j < 4) { a[i + j] = j; j = j + 1; }\n  }\n  print(a[0]);\n  print(a[4 * n - 1]);\n  return 0;\n}\n";
+
 fn joined(alloc: Global, parts: &[&str]) -> Result<Vec<u8>, AllocError> {
     let mut all = Vec::new(alloc);
     for part in parts {
@@ -313,118 +332,79 @@ fn due(alloc: Global, rule: u32, line: &str, column: u32) -> Result<Vec<u8>, All
     joined(alloc, &["names N", &rule, " at ", line, ":", &column, "\n"])
 }
 
-// What a replay of a source writes.
-fn written(alloc: Global, source: &[u8]) -> Result<Vec<u8>, AllocError> {
-    let mut shelf = shelf(alloc, source, "", Vec::new(alloc))?;
+// Whether a replay of a source tells this rule at this place.
+fn tells(
+    rt: &impl Abort,
+    alloc: Global,
+    source: &[u8],
+    rule: u32,
+    line: &str,
+    column: u32,
+) -> Result<(), AllocError> {
     let mut out = MemSink::new(alloc, Vec::new(alloc));
-    let words = replay(alloc, "7", "100")?;
-    liquid(alloc, &words, &mut shelf, &mut out, &OpenGate);
-    Vec::from_slice(alloc, out.written())
+    let status = status_of(alloc, &ample(source), &mut out)?;
+    let expected = due(alloc, rule, line, column)?;
+    assert_eq!(rt; out.written(), expected.as_slice());
+    assert_eq!(rt; status, if rule == 0 { 3 } else { 4 });
+    Ok(())
+}
+
+// Whether each body of a table tells its rule.
+fn bodies_tell(
+    rt: &impl Abort,
+    alloc: Global,
+    rows: &[(&str, u32, u32)],
+) -> Result<(), AllocError> {
+    for (body, rule, column) in rows {
+        let source = joined(alloc, &[PRELUDE, body, "\n}\n"])?;
+        tells(rt, alloc, &source, *rule, "3", *column)?;
+    }
+    Ok(())
 }
 
 #[test]
 fn keeps_the_rules(rt: HostRuntime) -> Result<(), Fail> {
-    let alloc = rt.alloc();
-    for (body, rule, column) in KEPT {
-        let source = joined(alloc, &[PRELUDE, body, "\n}\n"])?;
-        let told = written(alloc, &source)?;
-        let expected = due(alloc, rule, "3", column)?;
-        assert_eq!(rt; told, expected, "{body}");
-    }
+    bodies_tell(&rt, rt.alloc(), &KEPT)?;
+    bodies_tell(&rt, rt.alloc(), &KEPT_TOO)?;
     Ok(())
 }
 
 #[test]
-fn keeps_the_rules_too(rt: HostRuntime) -> Result<(), Fail> {
-    let alloc = rt.alloc();
-    for (body, rule, column) in KEPT_TOO {
-        let source = joined(alloc, &[PRELUDE, body, "\n}\n"])?;
-        let told = written(alloc, &source)?;
-        let expected = due(alloc, rule, "3", column)?;
-        assert_eq!(rt; told, expected, "{body}");
-    }
-    Ok(())
-}
-
-#[test]
-fn tells_what_is_unknown(rt: HostRuntime) -> Result<(), Fail> {
-    let alloc = rt.alloc();
-    for (body, rule, column) in UNKNOWN {
-        let source = joined(alloc, &[PRELUDE, body, "\n}\n"])?;
-        let told = written(alloc, &source)?;
-        let expected = due(alloc, rule, "3", column)?;
-        assert_eq!(rt; told, expected, "{body}");
-    }
-    Ok(())
-}
-
-#[test]
-fn tells_declarations_and_void_calls(rt: HostRuntime) -> Result<(), Fail> {
-    let alloc = rt.alloc();
-    for (body, rule, column) in DECLARED {
-        let source = joined(alloc, &[PRELUDE, body, "\n}\n"])?;
-        let told = written(alloc, &source)?;
-        let expected = due(alloc, rule, "3", column)?;
-        assert_eq!(rt; told, expected, "{body}");
-    }
+fn tells_names(rt: HostRuntime) -> Result<(), Fail> {
+    bodies_tell(&rt, rt.alloc(), &UNKNOWN)?;
+    bodies_tell(&rt, rt.alloc(), &DECLARED)?;
     Ok(())
 }
 
 #[test]
 fn tells_types(rt: HostRuntime) -> Result<(), Fail> {
-    let alloc = rt.alloc();
-    for (body, rule, column) in TYPES {
-        let source = joined(alloc, &[PRELUDE, body, "\n}\n"])?;
-        let told = written(alloc, &source)?;
-        let expected = due(alloc, rule, "3", column)?;
-        assert_eq!(rt; told, expected, "{body}");
-    }
+    bodies_tell(&rt, rt.alloc(), &TYPES)?;
+    bodies_tell(&rt, rt.alloc(), &TYPES_TOO)?;
     Ok(())
 }
 
 #[test]
-fn tells_types_too(rt: HostRuntime) -> Result<(), Fail> {
-    let alloc = rt.alloc();
-    for (body, rule, column) in TYPES_TOO {
-        let source = joined(alloc, &[PRELUDE, body, "\n}\n"])?;
-        let told = written(alloc, &source)?;
-        let expected = due(alloc, rule, "3", column)?;
-        assert_eq!(rt; told, expected, "{body}");
-    }
+fn tells_forks_and_results(rt: HostRuntime) -> Result<(), Fail> {
+    bodies_tell(&rt, rt.alloc(), &STRUCTS_AND_FORKS)?;
+    bodies_tell(&rt, rt.alloc(), &LOOPS)?;
     Ok(())
 }
 
 #[test]
-fn tells_structs_printing_and_returning(rt: HostRuntime) -> Result<(), Fail> {
+fn tells_steps(rt: HostRuntime) -> Result<(), Fail> {
     let alloc = rt.alloc();
-    for (body, rule, column) in STRUCTS_AND_FORKS {
-        let source = joined(alloc, &[PRELUDE, body, "\n}\n"])?;
-        let told = written(alloc, &source)?;
-        let expected = due(alloc, rule, "3", column)?;
-        assert_eq!(rt; told, expected, "{body}");
-    }
-    Ok(())
-}
-
-#[test]
-fn tells_loops_and_results(rt: HostRuntime) -> Result<(), Fail> {
-    let alloc = rt.alloc();
-    for (body, rule, column) in LOOPS {
-        let source = joined(alloc, &[PRELUDE, body, "\n}\n"])?;
-        let told = written(alloc, &source)?;
-        let expected = due(alloc, rule, "3", column)?;
-        assert_eq!(rt; told, expected, "{body}");
+    bodies_tell(&rt, alloc, &STEPS)?;
+    for (step, rule) in [("4", 0), ("0", 13), ("65537", 13)] {
+        let source = joined(alloc, &[BEFORE_STEP, step, BEHIND_STEP])?;
+        tells(&rt, alloc, &source, rule, "4", 3)?;
     }
     Ok(())
 }
 
 #[test]
 fn tells_the_first_broken_rule_of_programs(rt: HostRuntime) -> Result<(), Fail> {
-    let alloc = rt.alloc();
     for (text, rule, column) in PROGRAMS {
-        let told = written(alloc, text.as_bytes())?;
-        let expected = due(alloc, rule, "1", column)?;
-        assert_eq!(rt; told, expected, "{text}");
+        tells(&rt, rt.alloc(), text.as_bytes(), rule, "1", column)?;
     }
     Ok(())
 }

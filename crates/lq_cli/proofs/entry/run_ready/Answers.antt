@@ -7,6 +7,7 @@ use Rattle.lq_cli.specs.Lines.{line, number_lines, trap}
 use Rattle.lq_cli.specs.Liquid.{trapped, spent}
 use Rattle.lq_cli.specs.Run.{task_of, run_slice}
 use Rattle.lq_cli.proofs.Told.{has_end, told_done, begun_done, told_line, begun_line, begun_numbers, same_outcome}
+use Rattle.lq_cli.proofs.Law.{slice_settles}
 use Rattle.lq_cli.proofs.entry.run_ready.Goals as goal
 
 pub returns-in-Done-clause-answers : goal.returns-in-Done-clause-answers
@@ -42,9 +43,9 @@ returns-in-Fuel-clause-prefix g c =
 pub returns-in-SinkFault-clause-prefix : goal.returns-in-SinkFault-clause-prefix
 returns-in-SinkFault-clause-prefix g c =
     let same = same_outcome c.deref.result.now c.args.ready.now.picks.items c.args.ready.now.fuel c.args.ready.now.words c.args.ready.now.slice c.deref.ensures.value in
-    begun_numbers (run_slice c.args.ready.now.fuel c.args.ready.now.words c.args.ready.now.picks.items c.args.ready.now.slice) (g.K.Sink.written c.args.out.now) (g.K.Sink.written c.run.new.out) (has_end c.args.ready.now.fuel c.args.ready.now.picks.items (task_of c.args.ready.now.slice) (start c.args.ready.now.words) (c.picks_do_not_matter.ensures [] c.args.ready.now.slice c.args.ready.now.fuel c.args.ready.now.words c.args.ready.now.picks.items c.requires).0) (subst (λ (o : Outcome). AppendsPrefix (g.K.Sink.written c.args.out.now) (g.K.Sink.written c.run.new.out) (number_lines o.world.printed)) same c.in-SinkFault.ensures.prefix)
+    begun_numbers (run_slice c.args.ready.now.fuel c.args.ready.now.words c.args.ready.now.picks.items c.args.ready.now.slice) (g.K.Sink.written c.args.out.now) (g.K.Sink.written c.run.new.out) (has_end _ (slice_settles c.args.ready.now.slice c.args.ready.now.fuel c.args.ready.now.words c.args.ready.now.picks.items c.requires)) (subst (λ (o : Outcome). AppendsPrefix (g.K.Sink.written c.args.out.now) (g.K.Sink.written c.run.new.out) (number_lines o.world.printed)) same c.in-SinkFault.ensures.prefix)
 
 pub returns-clause-prefix : goal.returns-clause-prefix
 returns-clause-prefix g c =
     let same = same_outcome c.deref.result.now c.args.ready.now.picks.items c.args.ready.now.fuel c.args.ready.now.words c.args.ready.now.slice c.deref.ensures.value in
-    begun_numbers (run_slice c.args.ready.now.fuel c.args.ready.now.words c.args.ready.now.picks.items c.args.ready.now.slice) (g.K.Sink.written c.args.out.now) (g.K.Sink.written c.run.new.out) (has_end c.args.ready.now.fuel c.args.ready.now.picks.items (task_of c.args.ready.now.slice) (start c.args.ready.now.words) (c.picks_do_not_matter.ensures [] c.args.ready.now.slice c.args.ready.now.fuel c.args.ready.now.words c.args.ready.now.picks.items c.requires).0) (subst (λ (o : Outcome). AppendsPrefix (g.K.Sink.written c.args.out.now) (g.K.Sink.written c.run.new.out) (number_lines o.world.printed)) same c.run.ensures.prefix)
+    begun_numbers (run_slice c.args.ready.now.fuel c.args.ready.now.words c.args.ready.now.picks.items c.args.ready.now.slice) (g.K.Sink.written c.args.out.now) (g.K.Sink.written c.run.new.out) (has_end _ (slice_settles c.args.ready.now.slice c.args.ready.now.fuel c.args.ready.now.words c.args.ready.now.picks.items c.requires)) (subst (λ (o : Outcome). AppendsPrefix (g.K.Sink.written c.args.out.now) (g.K.Sink.written c.run.new.out) (number_lines o.world.printed)) same c.run.ensures.prefix)

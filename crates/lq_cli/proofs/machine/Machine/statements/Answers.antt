@@ -1,8 +1,9 @@
-use Rattle.std.proofs.Common.{◌<◌, [], None, sym, ap, ◌∙◌, subst}
+use Rattle.std.proofs.Common.{◌<◌, [], sym, ap, ◌∙◌, subst}
 use Rattle.std.specs.Prelude.{All}
 use Rattle.std.proofs.lemmas.List.Elements.{All-same}
 use Rattle.lq_shelf.proofs.Pieces.{Appends-nil, AppendsPrefix-none}
 use Rattle.lq_cli.specs.declared.slice.Store.{Store}
+use Rattle.lq_meaning.specs.Ending.{Done}
 use Rattle.lq_machine.specs.Task.{Task, Ended}
 use Rattle.lq_cli.specs.Run.{blocks_then, steps_then}
 use Rattle.lq_cli.specs.Machine.{array, array_len, StepWithin, world_of, rest_of_run}
@@ -27,7 +28,7 @@ returns-then-not-stores-clause-prints g c =
       spent_runs_on c.args.schedule.now.fuel c.args.schedule.now.picks.now s c.args.self.now c.stores.new.self
           (λ left printed.
           ap (λ (t : Task). rest_of_run c.args.schedule.now.fuel c.args.schedule.now.picks.now t (world_of c.args.self.now left printed)) (stores_first s c.as_slice-before.result.now c.as_slice-before.ensures)
-          ∙ ends (blocks_then array s.left.stores s.right.stores (steps_then array s.after (Ended None))) left printed),
+          ∙ ends (blocks_then array s.left.stores s.right.stores (steps_then array s.after (Ended Done))) left printed),
     )
 
 pub blocks-requires-clause-within_left : goal.blocks-requires-clause-within_left
@@ -52,9 +53,9 @@ returns-then-not-blocks-clause-prints g c =
       spent_runs_on c.args.schedule.now.fuel c.args.schedule.now.picks.now s c.args.self.now c.blocks-2.new.self
           (λ left printed.
           ap (λ (t : Task). rest_of_run c.args.schedule.now.fuel c.args.schedule.now.picks.now t (world_of c.args.self.now left printed)) (stores_first s c.as_slice-before.result.now c.as_slice-before.ensures)
-          ∙ made (blocks_then array s.left.stores s.right.stores (steps_then array s.after (Ended None))) left printed
+          ∙ made (blocks_then array s.left.stores s.right.stores (steps_then array s.after (Ended Done))) left printed
           ∙ ap (λ (t : Task). rest_of_run c.args.schedule.now.fuel c.args.schedule.now.picks.now t (world_of c.stores.new.self left printed)) (blocks_next s c.as_slice-left.result.now c.as_slice-right.result.now c.as_slice-left.ensures c.as_slice-right.ensures)
-          ∙ ends (steps_then array s.after (Ended None)) left printed),
+          ∙ ends (steps_then array s.after (Ended Done)) left printed),
     )
 
 pub steps-requires-clause-within : goal.steps-requires-clause-within
@@ -74,8 +75,8 @@ returns-clause-prints g c =
       steps_run_on c.args.schedule.now.fuel c.args.schedule.now.picks.now s c.args.self.now c.blocks-2.new.self c.steps.new.self p.0 c.steps.result
           (λ left printed.
           ap (λ (t : Task). rest_of_run c.args.schedule.now.fuel c.args.schedule.now.picks.now t (world_of c.args.self.now left printed)) (stores_first s c.as_slice-before.result.now c.as_slice-before.ensures)
-          ∙ made (blocks_then array s.left.stores s.right.stores (steps_then array s.after (Ended None))) left printed
+          ∙ made (blocks_then array s.left.stores s.right.stores (steps_then array s.after (Ended Done))) left printed
           ∙ ap (λ (t : Task). rest_of_run c.args.schedule.now.fuel c.args.schedule.now.picks.now t (world_of c.stores.new.self left printed)) (blocks_next s c.as_slice-left.result.now c.as_slice-right.result.now c.as_slice-left.ensures c.as_slice-right.ensures)
-          ∙ done (steps_then array s.after (Ended None)) left printed)
+          ∙ done (steps_then array s.after (Ended Done)) left printed)
           c.as_slice-after.result.now c.as_slice-after.ensures p.3,
     )
