@@ -5,7 +5,7 @@ use Rattle.std.proofs.lemmas.Bool.{cases_lt}
 use Rattle.std.proofs.lemmas.List.{append-nil, length-map}
 use Rattle.std.proofs.lemmas.Grind.{flat_map-append}
 use Rattle.lq_text.specs.Numbers.{lines_of}
-use Rattle.lq_text.proofs.Lists.{all_joined, all_right, all_weaker}
+use Rattle.lq_text.proofs.Lists.{all_joined, all_right, all_weaker, same_split}
 use Rattle.lq_cert.specs.Line.{IsLine, fact_count, line_words, line_text}
 use Rattle.lq_cert.specs.ProofFile.{most_facts, most_facts_by, IsLineOf, AreLines, lines_text, IsProofText, IsLineText, IsBadLine, IsFirstBadLine}
 use Rattle.lq_cert.specs.Split.{Avoids, IsSplitAt}
@@ -14,7 +14,7 @@ use Rattle.lq_cert.specs.declared.line.Line.{Line}
 use Rattle.lq_cert.specs.declared.line.Line.TheVariants.{Version}
 use Rattle.lq_cert.proofs.InkLemmas.{words_avoid, split_words}
 use Rattle.lq_cert.proofs.SpellingLemmas.{words_inject}
-use Rattle.lq_cert.proofs.SplitLemmas.{same_split, split_first, split_none, avoids_joined}
+use Rattle.lq_cert.proofs.SplitLemmas.{split_first, split_none, avoids_joined}
 
 -- a line's text holds no line feed
 line_avoids : (line : Line) → IsLine line → Avoids 10 (line_text line)

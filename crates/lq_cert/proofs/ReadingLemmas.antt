@@ -24,10 +24,9 @@ use Rattle.lq_cert.specs.declared.line.Part.{Part}
 use Rattle.lq_cert.specs.declared.line.FileVersion.{FileVersion}
 use Rattle.lq_cert.specs.declared.line.Line.{Line}
 use Rattle.lq_cert.specs.declared.line.Line.TheVariants.{Version}
-use Rattle.lq_text.proofs.Lists.{all_joined}
+use Rattle.lq_text.proofs.Lists.{all_joined, meets, same_split}
 use Rattle.lq_text.proofs.AtomLemmas.{reads_mapped, atom_inject}
 use Rattle.lq_cert.proofs.NumbersLemmas.{word_of_within}
-use Rattle.lq_cert.proofs.SplitLemmas.{same_split, meets}
 use Rattle.lq_cert.proofs.InkLemmas.{split_words}
 use Rattle.lq_cert.proofs.SpellingLemmas.{numeral_avoids, terms_inject, last_two, version_of, row_words, row_of, keyword_of}
 

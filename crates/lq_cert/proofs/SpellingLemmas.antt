@@ -18,12 +18,11 @@ use Rattle.lq_cert.specs.Split.{Avoids}
 use Rattle.lq_cert.specs.Reading.{Consequence, IsWritten, consequence_words, keyword_text}
 use Rattle.lq_cert.specs.declared.reading.Keyword.{Keyword}
 use Rattle.lq_cert.specs.declared.reading.Keyword.TheVariants as keyword
-use Rattle.lq_text.proofs.Lists.{all_weaker}
+use Rattle.lq_text.proofs.Lists.{all_weaker, same_split}
 use Rattle.lq_text.proofs.NumeralLemmas.{one_value_of}
 use Rattle.lq_text.proofs.AtomLemmas.{atom_inject}
 use Rattle.lq_cert.proofs.NumbersLemmas.{text_of_within}
 use Rattle.lq_cert.proofs.NumeralLemmas.{numeral_digits, place_value-numeral}
-use Rattle.lq_cert.proofs.SplitLemmas.{same_split}
 
 pub numeral_inject : (m n : ℕ) → numeral m ≡ numeral n → m ≡ n
 numeral_inject m n e = sym (place_value-numeral m) ∙ ap place_value e ∙ place_value-numeral n

@@ -5,23 +5,6 @@ use Rattle.std.proofs.lemmas.Bool.{cond-true, cond-false, ne_eqb, eq-eqb, cases_
 use Rattle.lq_text.proofs.Lists.{all_joined}
 use Rattle.lq_cert.specs.Split.{Avoids, IsSplitAt}
 
--- the bytes before the first such byte, and those behind it
-pub same_split : (byte : ℕ) (a b c d : List ℕ) → Avoids byte a → Avoids byte c → a ++ byte ∷ b ≡ c ++ byte ∷ d → (a ≡ c) × (b ≡ d)
-same_split byte [] b [] d h k e = (refl, cc)
-same_split byte [] b (y ∷ c) d h k e = let same : y ≡ byte = cc in absurd (k.0 same)
-same_split byte (x ∷ a) b [] d h k e = let same : x ≡ byte = cc in absurd (h.0 same)
-same_split byte (x ∷ a) b (y ∷ c) d h k e =
-    let first : x ≡ y = cc in
-    let rest : a ++ byte ∷ b ≡ c ++ byte ∷ d = cc in
-    let r = same_split byte a b c d h.1 k.1 rest in
-    let same : a ≡ c = r.0 in
-    (cc, r.1)
-
--- where the byte stands, the bytes don't avoid it
-pub meets : (byte : ℕ) (a b : List ℕ) → Avoids byte (a ++ byte ∷ b) → ⊥
-meets byte [] b h = h.0 refl
-meets byte (x ∷ a) b h = meets byte a b h.1
-
 -- bytes in which a test finds no such byte
 pub avoids_by_test : (byte : ℕ) (bytes : List ℕ) → list_all (λ each. not (eqb each byte)) bytes ≡ true → Avoids byte bytes
 avoids_by_test byte [] h = tt

@@ -38,100 +38,107 @@ fn log_of(alloc: Global, accesses: &[Access]) -> Result<Vec<Entry>, AllocError> 
 
 type Race = Option<(usize, usize)>;
 
+/// What the log is about, its accesses, and its least race.
+type Case = (&'static str, &'static [Access], Race);
+
 fn race_in(alloc: Global, accesses: &[Access]) -> Result<Race, AllocError> {
     first_race(alloc, log_of(alloc, accesses)?.as_slice())
 }
 
+/// Logs with a race, each with the entries of its least one.
+const RACES: [Case; 4] = [
+    (
+        "the lower half is one element too long",
+        &[
+            (&[0, 0, 0], STORE, FIRST),
+            (&[0, 0, 0], STORE, SECOND),
+            (&[0, 1, 0], STORE, SECOND),
+            (&[1], LOAD, FIRST),
+            (&[1], LOAD, SECOND),
+        ],
+        Some((1, 2)),
+    ),
+    (
+        "the second entry that comes first",
+        &[
+            (&[0, 0, 0], STORE, FIRST),
+            (&[0, 0, 0], STORE, SECOND),
+            (&[0, 1, 0], STORE, SECOND),
+            (&[0, 1, 0], STORE, FIRST),
+        ],
+        Some((1, 2)),
+    ),
+    (
+        "the first entry that comes first",
+        &[
+            (&[0, 0, 0], LOAD, FIRST),
+            (&[0, 0, 0], STORE, FIRST),
+            (&[0, 1, 0], STORE, FIRST),
+        ],
+        Some((0, 2)),
+    ),
+    (
+        "a branch of a fork within a branch",
+        &[(&[0, 0, 0, 1, 0], STORE, FIRST), (&[0, 1, 0], LOAD, FIRST)],
+        Some((0, 1)),
+    ),
+];
+
 #[test]
 fn tells_the_least_race(rt: HostRuntime) -> Result<(), Fail> {
-    let cases: [(&str, &[Access], Race); 4] = [
-        (
-            "the lower half is one element too long",
-            &[
-                (&[0, 0, 0], STORE, FIRST),
-                (&[0, 0, 0], STORE, SECOND),
-                (&[0, 1, 0], STORE, SECOND),
-                (&[1], LOAD, FIRST),
-                (&[1], LOAD, SECOND),
-            ],
-            Some((1, 2)),
-        ),
-        (
-            "the second entry that comes first",
-            &[
-                (&[0, 0, 0], STORE, FIRST),
-                (&[0, 0, 0], STORE, SECOND),
-                (&[0, 1, 0], STORE, SECOND),
-                (&[0, 1, 0], STORE, FIRST),
-            ],
-            Some((1, 2)),
-        ),
-        (
-            "the first entry that comes first",
-            &[
-                (&[0, 0, 0], LOAD, FIRST),
-                (&[0, 0, 0], STORE, FIRST),
-                (&[0, 1, 0], STORE, FIRST),
-            ],
-            Some((0, 2)),
-        ),
-        (
-            "a branch of a fork within a branch",
-            &[(&[0, 0, 0, 1, 0], STORE, FIRST), (&[0, 1, 0], LOAD, FIRST)],
-            Some((0, 1)),
-        ),
-    ];
-    for (name, accesses, want) in cases {
+    for (name, accesses, want) in RACES {
         assert_eq!(rt; race_in(rt.alloc(), accesses)?, want, "{name}");
     }
     Ok(())
 }
 
+/// Logs without a race.
+const NO_RACES: [Case; 7] = [
+    ("no entry", &[], None),
+    (
+        "each half for itself",
+        &[
+            (&[0, 0, 0], STORE, FIRST),
+            (&[0, 1, 0], STORE, SECOND),
+            (&[1], LOAD, FIRST),
+            (&[1], LOAD, SECOND),
+        ],
+        None,
+    ),
+    (
+        "two loads",
+        &[(&[0, 0, 0], LOAD, FIRST), (&[0, 1, 0], LOAD, FIRST)],
+        None,
+    ),
+    (
+        "behind the fork",
+        &[(&[0, 0, 0], STORE, FIRST), (&[1], STORE, FIRST)],
+        None,
+    ),
+    (
+        "a branch of a later fork",
+        &[(&[0, 0, 0], STORE, FIRST), (&[1, 1, 0], STORE, FIRST)],
+        None,
+    ),
+    (
+        "behind a fork within the branch",
+        &[(&[0, 0, 0, 1, 0], STORE, FIRST), (&[0, 0, 1], STORE, FIRST)],
+        None,
+    ),
+    (
+        "another field, another block",
+        &[
+            (&[0, 0, 0], STORE, FIRST),
+            (&[0, 1, 0], STORE, OTHER_FIELD),
+            (&[0, 2, 0], STORE, OTHER_BLOCK),
+        ],
+        None,
+    ),
+];
+
 #[test]
 fn tells_no_race(rt: HostRuntime) -> Result<(), Fail> {
-    let cases: [(&str, &[Access], Race); 7] = [
-        ("no entry", &[], None),
-        (
-            "each half for itself",
-            &[
-                (&[0, 0, 0], STORE, FIRST),
-                (&[0, 1, 0], STORE, SECOND),
-                (&[1], LOAD, FIRST),
-                (&[1], LOAD, SECOND),
-            ],
-            None,
-        ),
-        (
-            "two loads",
-            &[(&[0, 0, 0], LOAD, FIRST), (&[0, 1, 0], LOAD, FIRST)],
-            None,
-        ),
-        (
-            "behind the fork",
-            &[(&[0, 0, 0], STORE, FIRST), (&[1], STORE, FIRST)],
-            None,
-        ),
-        (
-            "a branch of a later fork",
-            &[(&[0, 0, 0], STORE, FIRST), (&[1, 1, 0], STORE, FIRST)],
-            None,
-        ),
-        (
-            "behind a fork within the branch",
-            &[(&[0, 0, 0, 1, 0], STORE, FIRST), (&[0, 0, 1], STORE, FIRST)],
-            None,
-        ),
-        (
-            "another field, another block",
-            &[
-                (&[0, 0, 0], STORE, FIRST),
-                (&[0, 1, 0], STORE, OTHER_FIELD),
-                (&[0, 2, 0], STORE, OTHER_BLOCK),
-            ],
-            None,
-        ),
-    ];
-    for (name, accesses, want) in cases {
+    for (name, accesses, want) in NO_RACES {
         assert_eq!(rt; race_in(rt.alloc(), accesses)?, want, "{name}");
     }
     Ok(())

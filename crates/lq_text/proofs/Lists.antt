@@ -45,3 +45,15 @@ Avoids one list = AllByRecursion (λ each. each ≢ one) list
 pub meets : (one : ℕ) (a b : List ℕ) → Avoids one (a ++ one ∷ b) → ⊥
 meets one [] b h = h.0 refl
 meets one (x ∷ a) b h = meets one a b h.1
+
+-- the bytes before the first such byte, and those behind it
+pub same_split : (one : ℕ) (a b c d : List ℕ) → Avoids one a → Avoids one c → a ++ one ∷ b ≡ c ++ one ∷ d → (a ≡ c) × (b ≡ d)
+same_split one [] b [] d h k e = (refl, cc)
+same_split one [] b (y ∷ c) d h k e = let same : y ≡ one = cc in absurd (k.0 same)
+same_split one (x ∷ a) b [] d h k e = let same : x ≡ one = cc in absurd (h.0 same)
+same_split one (x ∷ a) b (y ∷ c) d h k e =
+    let first : x ≡ y = cc in
+    let rest : a ++ one ∷ b ≡ c ++ one ∷ d = cc in
+    let r = same_split one a b c d h.1 k.1 rest in
+    let same : a ≡ c = r.0 in
+    (cc, r.1)

@@ -11,6 +11,7 @@ pub record Row : Type 0 where
   pub name : List ℕ
   pub allowed : ℕ
 
+-- a row of the table
 abbrev row : (number : ℕ) → (name : String) → (allowed : ℕ) → Row
 row number name allowed = record { number = number; name = codes name; allowed = allowed }
 

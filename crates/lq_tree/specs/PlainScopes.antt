@@ -57,6 +57,7 @@ abbrev mutual
   pub scoped_branch : Branch → Reading → Reading
   scoped_branch (Branch' at n body) r = closed r (scoped_row r.assigned body r)
 
+  -- branches beside each other
   pub scoped_branches : {n : _} → Row_of-Branch n → Reading → Reading
   scoped_branches end_of-Branch r = r
   scoped_branches (more_of-Branch branch rest) r = scoped_branches rest (scoped_branch branch r)

@@ -17,6 +17,7 @@ abbrev mutual
   depth (IsNull' p e) = suc (row_depth e)
   depth _ = 1
 
+  -- of the deepest of a row
   pub row_depth : {n : _} → Row_of-PExpr n → ℕ
   row_depth end_of-PExpr = 0
   row_depth (more_of-PExpr e rest) = max (depth e) (row_depth rest)
@@ -25,6 +26,7 @@ abbrev mutual
 abbrev pub is_shallow : PExpr → Bool
 is_shallow e = nat_le (depth e) 600
 
+-- how many branches there are
 abbrev pub count_branches : {n : _} → Row_of-Branch n → ℕ
 count_branches end_of-Branch = 0
 count_branches (more_of-Branch branch rest) = suc (count_branches rest)
@@ -33,6 +35,7 @@ count_branches (more_of-Branch branch rest) = suc (count_branches rest)
 abbrev pub few_branches : ℕ → Bool
 few_branches count = nat_le 2 count && nat_le count 16
 
+-- it is a Return
 abbrev pub is_return : PKind → Bool
 is_return (Return e) = true
 is_return _ = false

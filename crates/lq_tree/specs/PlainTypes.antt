@@ -36,6 +36,7 @@ abbrev pub type_at : Option Slot → Ty
 type_at None = Unknown
 type_at (Some s) = declared s.ctype
 
+-- the type of the slot with this number
 abbrev pub slot_type : List Slot → ℕ → Ty
 slot_type slots n = type_at (slice_get slots n)
 
@@ -59,6 +60,7 @@ abbrev mutual
   plain_type slots (Shift' p a q n) = shifted (operand_type slots a) (operand_type slots n)
   plain_type slots (IsNull' p e) = number_if (is_pointer (operand_type slots e))
 
+  -- of the one operand of a box
   pub operand_type : {n : _} → List Slot → Row_of-PExpr n → Ty
   operand_type slots end_of-PExpr = Unknown
   operand_type slots (more_of-PExpr e rest) = plain_type slots e

@@ -17,10 +17,12 @@ abbrev mutual
   nodes (IsNull' p a) = IsNull' p a ∷ nodes_row a
   nodes e = e ∷ []
 
+  -- of each expression of a row
   pub nodes_row : {n : _} → Row_of-PExpr n → List PExpr
   nodes_row end_of-PExpr = []
   nodes_row (more_of-PExpr e rest) = nodes e ++ nodes_row rest
 
+-- a statement at its place
 abbrev pub statement : Place → PKind → PStmt
 statement at kind = record { at = at; kind = kind }
 
@@ -33,13 +35,16 @@ abbrev mutual
   inside (Foreach index low high step branch) = within_branch branch
   inside _ = []
 
+  -- the statements of a row, each with those inside it
   pub within_row : {n : _} → Row_of-PStmt n → List PStmt
   within_row end_of-PStmt = []
   within_row (more_of-PStmt at kind rest) = statement at kind ∷ inside kind ++ within_row rest
 
+  -- of a branch
   pub within_branch : Branch → List PStmt
   within_branch (Branch' at n body) = within_row body
 
+  -- of branches beside each other
   pub within_branches : {n : _} → Row_of-Branch n → List PStmt
   within_branches end_of-Branch = []
   within_branches (more_of-Branch branch rest) = within_branch branch ++ within_branches rest
@@ -85,6 +90,7 @@ abbrev pub slot_read : PExpr → List ℕ
 slot_read (Slot n) = n ∷ []
 slot_read _ = []
 
+-- at any depth
 abbrev pub slots_read : PExpr → List ℕ
 slots_read e = flat_map slot_read (nodes e)
 

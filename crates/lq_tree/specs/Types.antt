@@ -40,6 +40,7 @@ declared_as Int zero = Number
 declared_as (Struct name) zero = Whole name
 declared_as base (suc n) = Pointer base n
 
+-- the same, of a written type
 abbrev pub declared : CType → Ty
 declared type = declared_as type.base type.stars
 

@@ -23,6 +23,7 @@ unfoldable mutual
   nodes (CallExpr' f n args) = CallExpr' f n args ∷ nodes_row args
   nodes (Calloc' p a type) = Calloc' p a type ∷ nodes_row a
 
+  -- of each expression of a row
   pub nodes_row : {n : _} → Row_of-Expr n → List Expr
   nodes_row end_of-Expr = []
   nodes_row (more_of-Expr e rest) = nodes e ++ nodes_row rest
@@ -31,6 +32,7 @@ unfoldable mutual
 abbrev pub Form : Type 0
 Form = StmtKind-F StmtKind Arm Stmt
 
+-- the condition of an arm
 abbrev pub condition : Arm → Expr
 condition arm = (out-Arm arm).cond
 
@@ -62,6 +64,7 @@ some_value test (Print e) = test e
 some_value test (Foreach index low high step body) = test low || test high
 some_value test _ = false
 
+-- a statement at its place
 abbrev pub statement : Place → StmtKind → Stmt
 statement at kind = record { at = at; kind = kind }
 
@@ -81,13 +84,16 @@ unfoldable mutual
   within_row end_of-Stmt = []
   within_row (more_of-Stmt at kind rest) = statement at kind ∷ inside kind ++ within_row rest
 
+  -- of the bodies of an `if`
   pub within_arms : {n : _} → Row_of-Arm n → List Stmt
   within_arms end_of-Arm = []
   within_arms (more_of-Arm arm rest) = within_arm arm ++ within_arms rest
 
+  -- of one of them
   pub within_arm : Arm → List Stmt
   within_arm (Arm' e p body) = within_row body
 
+  -- of a statement that may be missing
   pub within_held : Held-StmtKind-If-1 → List Stmt
   within_held None' = []
   within_held (Some' p other) = within_row other
