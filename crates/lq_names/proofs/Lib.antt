@@ -12,3 +12,4 @@ pub mod ProgramLaws
 pub mod LeastFaults
 pub mod Telling
 pub mod CountLaws
+pub mod ScopeCounts

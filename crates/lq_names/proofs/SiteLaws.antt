@@ -254,9 +254,6 @@ grows_after s (For' a e t p b) = omega arith
 grows_after s (Cobegin' m b) = omega arith
 grows_after s (Foreach' i l h n p b) = omega arith
 
-pub local_alone : (s : Site) (at : Place) (kind : StmtKind) (t : CType) (x : List ℕ) (e : Option Expr) → kind ≡ Local t x e → sites s at kind ≡ placed s at kind ∷ []
-local_alone s at kind t x e is = subst (λ (k : StmtKind). sites s at k ≡ placed s at k ∷ []) (sym is) (sites_local s at t x e)
-
 -- the frame of a parallel statement
 pub parallel_site : (frame inner : Frame) (scope : List Variable) (n : ℕ) → ((all : List Variable) → frame_site inner all ≡ record (frame_site frame all) { outside = n; parallel = true })
     → n ≡ length scope → frame_site inner scope ≡ in_parallel (frame_site frame scope)
@@ -275,6 +272,3 @@ site_after_other f scope (Some b) = site_after f scope b.kind
 pub kept_after_other : (s : Site) (other : Option Stmt) → take (length s.scope) (after_other s other).scope ≡ s.scope
 kept_after_other s None = take_all (length s.scope) s.scope (omega arith)
 kept_after_other s (Some b) = kept_after s b.kind (length s.scope) (omega arith) ∙ take_all (length s.scope) s.scope (omega arith)
-
-pub for_keeps : (s : Site) (kind : StmtKind) (start : Option Stmt) (e : Option Expr) (third : Option Stmt) (body : Stmt) → kind ≡ For start e third body → (after s kind).scope ≡ s.scope
-for_keeps s kind start e third body is = ap (λ (k : StmtKind). (after s k).scope) is

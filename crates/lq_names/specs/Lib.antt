@@ -8,3 +8,4 @@ pub mod Headers
 pub mod Calls
 pub mod Broken
 pub mod Counts
+pub mod InScope

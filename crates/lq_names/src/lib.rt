@@ -21,4 +21,4 @@ mod walk;
 pub use check::check_names;
 pub use counts::check_counts;
 pub use fault::NamesFault;
-pub use laws::one_least_fault;
+pub use laws::{locals_are_most_in_scope, one_least_fault};

@@ -5,6 +5,7 @@ ghost use Rattle.std.specs.List.{flat_map};
 ghost use Rattle.std.specs.Option.{option_copied};
 ghost use Rattle.lq_tree.specs.declared.stmt.StmtKind.{out-StmtKind};
 ghost use Rattle.lq_names.specs.Faults as faults;
+ghost use Rattle.lq_names.specs.Scopes.{in_parallel};
 ghost use Rattle.lq_names.specs.Sites as sites;
 ghost use Rattle.lq_names.specs.Seen.{at_site, frame_site};
 
@@ -82,18 +83,57 @@ fn head_frame<'a>(frame: Frame<'a>, scope: &[Variable<'a>], kind: &StmtKind) -> 
 fn at_itself(
     frame: Frame<'_>,
     scope: &[Variable<'_>],
-    at: Place,
-    kind: &StmtKind,
+    stmt: &Stmt,
     found: Option<Fault>,
 ) -> Option<Fault>
-    ensures { result ≡ faults.noted at found (faults.statement_rules (frame_site frame.entry scope.now) (out-StmtKind kind.now)) }
+    ensures { result ≡ faults.noted stmt.now.at found (faults.statement_rules (frame_site frame.entry scope.now) (out-StmtKind stmt.now.kind)) }
 {
-    let first = at_statement(&frame.site(scope), at, kind, found);
-    let head = head_frame(frame, scope, kind);
-    in_values(&head.site(scope), at, kind, first)
+    let first = at_statement(&frame.site(scope), stmt.at, &stmt.kind, found);
+    let head = head_frame(frame, scope, &stmt.kind);
+    in_values(&head.site(scope), stmt.at, &stmt.kind, first)
 }
 
-/// The least fault, with those of a statement; what it declares is in scope behind it.
+/// The least fault, with those of a statement, all of whose locals go out of scope behind it.
+#[cycle(statements)]
+fn in_body<'a>(
+    frame: Frame<'a>,
+    scope: &mut Vec<Variable<'a>>,
+    stmt: &'a Stmt,
+    found: Option<Fault>,
+) -> Result<Option<Fault>, AllocError>
+    ensures found { IfOk result (λ r. r ≡ faults.gathered found (sites.sites_of (frame_site frame.entry scope.old.items) stmt.now)) }
+    ensures scope { OnOk result (scope.new.items ≡ scope.old.items) }
+{
+    match &stmt.kind {
+        StmtKind::Block(body) => in_block(frame, scope, body.as_slice(), found),
+        StmtKind::Cobegin(blocks) => in_branches(frame, scope, blocks.as_slice(), found),
+        StmtKind::If(arms, other) => {
+            let first = at_itself(frame, scope.as_slice(), stmt, found);
+            let next = in_arms(frame, scope, arms.as_slice(), first)?;
+            in_other(frame, scope, other, next)
+        }
+        StmtKind::While(_, body) => {
+            let first = at_itself(frame, scope.as_slice(), stmt, found);
+            in_body(frame, scope, body.get(), first)
+        }
+        StmtKind::Foreach(index, _, _, _, body) => {
+            let first = at_itself(frame, scope.as_slice(), stmt, found);
+            in_iteration(frame, scope, index, body.get(), first)
+        }
+        StmtKind::For(start, _, third, body) => {
+            let height = scope.len();
+            let first = in_start(frame, scope, start, found)?;
+            let own = at_itself(frame, scope.as_slice(), stmt, first);
+            let next = in_other(frame, scope, third, own)?;
+            let last = in_body(frame, scope, body.get(), next)?;
+            scope.truncate(height);
+            Ok(last)
+        }
+        _ => Ok(at_itself(frame, scope.as_slice(), stmt, found)),
+    }
+}
+
+/// The same for a statement whose local, if it declares one, is in scope behind it.
 #[cycle(statements)]
 fn in_statement<'a>(
     frame: Frame<'a>,
@@ -104,42 +144,12 @@ fn in_statement<'a>(
     ensures found { IfOk result (λ r. r ≡ faults.gathered found (sites.sites_of (frame_site frame.entry scope.old.items) stmt.now)) }
     ensures scope { OnOk result (scope.new.items ≡ (sites.after (frame_site frame.entry scope.old.items) stmt.now.kind).scope) }
 {
-    let at = stmt.at;
-    match &stmt.kind {
-        StmtKind::Block(body) => in_block(frame, scope, body.as_slice(), found),
-        StmtKind::Cobegin(blocks) => {
-            let inner = frame.in_parallel(scope.len());
-            in_branches(inner, scope, blocks.as_slice(), found)
-        }
-        StmtKind::If(arms, other) => {
-            let first = at_itself(frame, scope.as_slice(), at, &stmt.kind, found);
-            let next = in_arms(frame, scope, arms.as_slice(), first)?;
-            in_other(frame, scope, other, next)
-        }
-        StmtKind::While(_, body) => {
-            let first = at_itself(frame, scope.as_slice(), at, &stmt.kind, found);
-            in_body(frame, scope, body.get(), first)
-        }
-        StmtKind::Foreach(index, _, _, _, body) => {
-            let first = at_itself(frame, scope.as_slice(), at, &stmt.kind, found);
-            in_iteration(frame, scope, index, body.get(), first)
-        }
-        StmtKind::For(start, _, third, body) => {
-            let height = scope.len();
-            let first = in_start(frame, scope, start, found)?;
-            let own = at_itself(frame, scope.as_slice(), at, &stmt.kind, first);
-            let next = in_other(frame, scope, third, own)?;
-            let last = in_body(frame, scope, body.get(), next)?;
-            scope.truncate(height);
-            Ok(last)
-        }
-        StmtKind::Local(ctype, name, _) => {
-            let first = at_itself(frame, scope.as_slice(), at, &stmt.kind, found);
-            scope.push(Variable::new(name, declared(ctype)))?;
-            Ok(first)
-        }
-        _ => Ok(at_itself(frame, scope.as_slice(), at, &stmt.kind, found)),
-    }
+    let last = in_body(frame, scope, stmt, found)?;
+    let StmtKind::Local(ctype, name, _) = &stmt.kind else {
+        return Ok(last);
+    };
+    scope.push(Variable::new(name, declared(ctype)))?;
+    Ok(last)
 }
 
 /// The same for statements one after another, to the end of the block that holds them.
@@ -162,23 +172,6 @@ fn in_block<'a>(
     Ok(found)
 }
 
-/// The same for a statement that is a body of its own.
-#[cycle(statements)]
-fn in_body<'a>(
-    frame: Frame<'a>,
-    scope: &mut Vec<Variable<'a>>,
-    stmt: &'a Stmt,
-    found: Option<Fault>,
-) -> Result<Option<Fault>, AllocError>
-    ensures found { IfOk result (λ r. r ≡ faults.gathered found (sites.sites_of (frame_site frame.entry scope.old.items) stmt.now)) }
-    ensures scope { OnOk result (scope.new.items ≡ scope.old.items) }
-{
-    let height = scope.len();
-    let last = in_statement(frame, scope, stmt, found)?;
-    scope.truncate(height);
-    Ok(last)
-}
-
 /// The same for the blocks of a `cobegin`.
 #[cycle(statements)]
 fn in_branches<'a>(
@@ -187,12 +180,13 @@ fn in_branches<'a>(
     blocks: &'a [Stmt],
     found: Option<Fault>,
 ) -> Result<Option<Fault>, AllocError>
-    ensures found { IfOk result (λ r. r ≡ faults.gathered found (sites.sites_beside (frame_site frame.entry scope.old.items) blocks.now)) }
+    ensures found { IfOk result (λ r. r ≡ faults.gathered found (sites.sites_beside (in_parallel (frame_site frame.entry scope.old.items)) blocks.now)) }
     ensures scope { OnOk result (scope.new.items ≡ scope.old.items) }
 {
+    let inner = frame.in_parallel(scope.len());
     let mut found = found;
     for stmt in blocks {
-        found = in_body(frame, scope, stmt, found)?;
+        found = in_body(inner, scope, stmt, found)?;
     }
     Ok(found)
 }

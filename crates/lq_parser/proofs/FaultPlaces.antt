@@ -10,7 +10,7 @@ use Rattle.lq_lexer.specs.Tokens.{text_of}
 use Rattle.lq_parser.specs.declared.lexeme.Lexeme.{Lexeme}
 use Rattle.lq_parser.specs.Lexemes.{first}
 use Rattle.lq_parser.specs.Source.{symbol_of, lexeme_of, lexemes_of}
-use Rattle.lq_parser.specs.Programs.{IsProgram}
+use Rattle.lq_parser.specs.Programs.{IsProgram, nothing}
 use Rattle.lq_parser.specs.Outcome.{Fails, AtEnd}
 use Rattle.lq_parser.specs.Spelling.{Spells, IsFirstAnnotation, IsViable, byte_of, IsDead, IsFaultPlace}
 use Rattle.lq_parser.proofs.Symbols.{is_reserved, Plain, plain_at, plain_program}
@@ -123,3 +123,24 @@ one_fault text tokens at other f g = by_cuts (cuts f.front f.rest g.front g.rest
     by_cuts (same_cut e) = f.place ∙ ap (byte_of text) e ∙ sym g.place
     by_cuts (earlier t behind behind' e e') = absurd (dead_token text f.front behind' t (lexemes_of text g.front) g.viable (ap (lexemes_of text) e') (subst (IsDead text (lexemes_of text f.front)) e f.dead))
     by_cuts (later t behind behind' e e') = absurd (dead_token text g.front behind' t (lexemes_of text f.front) f.viable (ap (lexemes_of text) e') (subst (IsDead text (lexemes_of text g.front)) e g.dead))
+
+-- ---- a tree or a fault place
+
+-- the fault stands where the longest front ends that can be completed; without one the whole is spelled
+pub tree_or_place : (text : List ℕ) (tokens : List Token) → ((tree : Program) → ¬ Spells text tokens tree) → ((at : ℕ) → ¬ IsFaultPlace text tokens at) → ⊥
+tree_or_place text tokens no_tree no_place = from [] tokens refl ([], record { structs = []; funcs = [] }, nothing)
+  where
+    from : (front rest : List Token) → tokens ≡ front ++ rest → IsViable (lexemes_of text front) → ⊥
+    from front [] split viable =
+        no_place (length text)
+        (record { front = front; rest = []; split = split; viable = viable; dead = λ tree x. no_tree tree (subst (λ u. IsProgram (lexemes_of text u) tree) (sym (append-nil front) ∙ sym split) x); place = refl })
+    from front (t ∷ rest) split viable =
+        no_place t.start
+        (record {
+          front = front;
+          rest = t ∷ rest;
+          split = split;
+          viable = viable;
+          dead = λ v. from (front ++ (t ∷ [])) rest (split ∙ sym (append_assoc front (t ∷ []) rest)) (subst IsViable (sym (map-append (lexeme_of text) front (t ∷ []))) v);
+          place = refl;
+        })

@@ -13,3 +13,8 @@ pub fn fault_is_one()
     ensures none { (text : List ℕ) (tokens : List Token) (tree : Program) (at : ℕ) → Spells text tokens tree → ¬ IsFaultPlace text tokens at }
     ensures one { (text : List ℕ) (tokens : List Token) (at other : ℕ) → IsFaultPlace text tokens at → IsFaultPlace text tokens other → at ≡ other }
 {}
+
+/// No tokens have neither a tree nor a fault place.
+pub fn tree_or_fault_place()
+    ensures { (text : List ℕ) (tokens : List Token) → ¬ (((tree : Program) → ¬ Spells text tokens tree) × ((at : ℕ) → ¬ IsFaultPlace text tokens at)) }
+{}

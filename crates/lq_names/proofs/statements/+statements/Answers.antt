@@ -9,7 +9,7 @@ use Rattle.lq_names.specs.Faults.{gathered, noted, statement_rules}
 use Rattle.lq_names.specs.Sites.{sites, sites_list, sites_of, sites_beside, sites_of_bodies, sites_of_other, after_other, iteration}
 use Rattle.lq_names.specs.Seen.{frame_site}
 use Rattle.lq_names.proofs.LeastLaws.{gathered_none}
-use Rattle.lq_names.proofs.SiteLaws.{sites_block, sites_cobegin, sites_alone, local_alone, site_after, kept_after, grows_after, parallel_site, iteration_site, site_after_other, kept_after_other, for_keeps}
+use Rattle.lq_names.proofs.SiteLaws.{sites_block, sites_cobegin, sites_alone, site_after, kept_after, grows_after, parallel_site, iteration_site, site_after_other, kept_after_other}
 use Rattle.lq_names.proofs.StatementLaws.{part_more, parts_end, stmt_more, stmts_end, alone, in_while, in_foreach, in_if, in_for}
 use Rattle.lq_names.proofs.statements.+statements.Goals as goal
 
@@ -75,16 +75,19 @@ pub in_branches-loop-stmt-preserved : goal.in_branches-loop-stmt-preserved
 in_branches-loop-stmt-preserved t c =
     let s = frame_site c.args.frame c.args.scope.now.items in
     let inv = c.loop-stmt.invariant in
+    let inner = parallel_site c.args.frame c.in_parallel-inner.result c.args.scope.now.items c.len.result c.in_parallel-inner.ensures (c.len.ensures ∙ c.args.scope.now.ok.0) in
     record {
       same = c.in_ok-found.ensures.scope ∙ inv.same;
       so_far =
-          part_more (sites_of s) c.loop-stmt.found _ c.in_ok-found.found c.args.blocks.now c.loop-stmt.stmt-index c.stmt-item.result (omega arith) c.stmt-item.is inv.so_far
-          (c.in_ok-found.ensures.found ∙ ap (λ (all : List Variable). gathered c.loop-stmt.found (sites_of (frame_site c.args.frame all) c.stmt-item.result)) inv.same);
+          part_more (sites_of (in_parallel s)) c.loop-stmt.found _ c.in_ok-found.found c.args.blocks.now c.loop-stmt.stmt-index c.stmt-item.result (omega arith) c.stmt-item.is inv.so_far
+          (c.in_ok-found.ensures.found
+          ∙ ap (λ (all : List Variable). gathered c.loop-stmt.found (sites_of (frame_site c.in_parallel-inner.result all) c.stmt-item.result)) inv.same
+          ∙ ap (λ (x : Site). gathered c.loop-stmt.found (sites_of x c.stmt-item.result)) inner);
     }
 
 pub in_branches-returns-clause-found : goal.in_branches-returns-clause-found
 in_branches-returns-clause-found t c =
-    parts_end (sites_of (frame_site c.args.frame c.args.scope.now.items)) c.loop-stmt.found _ c.args.blocks.now c.loop-stmt.stmt-index (omega arith) c.loop-stmt.invariant.so_far
+    parts_end (sites_of (in_parallel (frame_site c.args.frame c.args.scope.now.items))) c.loop-stmt.found _ c.args.blocks.now c.loop-stmt.stmt-index (omega arith) c.loop-stmt.invariant.so_far
 
 pub in_branches-returns-clause-scope : goal.in_branches-returns-clause-scope
 in_branches-returns-clause-scope t c = c.loop-stmt.invariant.same
@@ -104,26 +107,24 @@ pub in_start-returns-in-None-clause-found : goal.in_start-returns-in-None-clause
 in_start-returns-in-None-clause-found t c =
     sym (ap (λ (o : Option Stmt). gathered c.args.found (sites_of_other (frame_site c.args.frame c.args.scope.now.items) o)) c.in-None.is ∙ gathered_none c.args.found)
 
-pub in_statement-returns-in-Block-clause-found : goal.in_statement-returns-in-Block-clause-found
-in_statement-returns-in-Block-clause-found t c =
+pub in_body-returns-in-Block-clause-found : goal.in_body-returns-in-Block-clause-found
+in_body-returns-in-Block-clause-found t c =
     let s = frame_site c.args.frame c.args.scope.now.items in
     let at = c.args.stmt.now.at in
     IfOk-weaker c.in_block.result (λ r. r ≡ gathered c.args.found (sites_list s c.as_slice.result.now)) (λ r. r ≡ gathered c.args.found (sites_of s c.args.stmt.now))
     (λ r e. e ∙ ap (λ (b : List Stmt). gathered c.args.found (sites_list s b)) c.as_slice.ensures
     ∙ sym (ap (λ (k : StmtKind). gathered c.args.found (sites s at k)) c.in-Block.is ∙ ap (gathered c.args.found) (sites_block s at c.in-Block.body))) c.in_block.ensures.found
 
-pub in_statement-returns-in-Cobegin-clause-found : goal.in_statement-returns-in-Cobegin-clause-found
-in_statement-returns-in-Cobegin-clause-found t c =
+pub in_body-returns-in-Cobegin-clause-found : goal.in_body-returns-in-Cobegin-clause-found
+in_body-returns-in-Cobegin-clause-found t c =
     let s = frame_site c.args.frame c.args.scope.now.items in
     let at = c.args.stmt.now.at in
-    let inner = parallel_site c.args.frame c.in_parallel-inner.result c.args.scope.now.items c.len.result c.in_parallel-inner.ensures (c.len.ensures ∙ c.args.scope.now.ok.0) in
-    IfOk-weaker c.in_branches.result (λ r. r ≡ gathered c.args.found (sites_beside (frame_site c.in_parallel-inner.result c.args.scope.now.items) c.as_slice-in-Cobegin.result.now)) (λ r. r ≡ gathered c.args.found (sites_of s c.args.stmt.now))
-    (λ r e. e ∙ ap (λ (x : Site). gathered c.args.found (sites_beside x c.as_slice-in-Cobegin.result.now)) inner
-    ∙ ap (λ (b : List Stmt). gathered c.args.found (sites_beside (in_parallel s) b)) c.as_slice-in-Cobegin.ensures
+    IfOk-weaker c.in_branches.result (λ r. r ≡ gathered c.args.found (sites_beside (in_parallel s) c.as_slice-in-Cobegin.result.now)) (λ r. r ≡ gathered c.args.found (sites_of s c.args.stmt.now))
+    (λ r e. e ∙ ap (λ (b : List Stmt). gathered c.args.found (sites_beside (in_parallel s) b)) c.as_slice-in-Cobegin.ensures
     ∙ sym (ap (λ (k : StmtKind). gathered c.args.found (sites s at k)) c.in-Cobegin.is ∙ ap (gathered c.args.found) (sites_cobegin s at c.in-Cobegin.blocks))) c.in_branches.ensures.found
 
-pub in_statement-returns-in_ok-next-in-If-clause-found : goal.in_statement-returns-in_ok-next-in-If-clause-found
-in_statement-returns-in_ok-next-in-If-clause-found t c =
+pub in_body-returns-in_ok-next-in-If-clause-found : goal.in_body-returns-in_ok-next-in-If-clause-found
+in_body-returns-in_ok-next-in-If-clause-found t c =
     let s = frame_site c.args.frame c.args.scope.now.items in
     let at = c.args.stmt.now.at in
     let kind = c.args.stmt.now.kind in
@@ -132,8 +133,8 @@ in_statement-returns-in_ok-next-in-If-clause-found t c =
     (c.in_ok-next-in-If.ensures.found ∙ ap (λ (a : List Arm). gathered c.at_itself-first.result (sites_of_bodies s a)) c.as_slice-in-If-2.ensures)
     (e ∙ ap (λ (all : List Variable). gathered c.in_ok-next-in-If.next (sites_of_other (frame_site c.args.frame all) c.in-If.other)) c.in_ok-next-in-If.ensures.scope)) c.in_other.ensures.found
 
-pub in_statement-returns-in-While-clause-found : goal.in_statement-returns-in-While-clause-found
-in_statement-returns-in-While-clause-found t c =
+pub in_body-returns-in-While-clause-found : goal.in_body-returns-in-While-clause-found
+in_body-returns-in-While-clause-found t c =
     let s = frame_site c.args.frame c.args.scope.now.items in
     let at = c.args.stmt.now.at in
     let kind = c.args.stmt.now.kind in
@@ -141,8 +142,8 @@ in_statement-returns-in-While-clause-found t c =
     (c.at_itself-first-in-While.ensures ∙ ap (λ (all : List Variable). noted at c.args.found (statement_rules (frame_site c.args.frame all) (out-StmtKind kind))) c.as_slice-in-While.ensures.value)
     (e ∙ ap (λ (b : Stmt). gathered c.at_itself-first-in-While.result (sites_of s b)) c.get.ensures)) c.in_body.ensures.found
 
-pub in_statement-returns-in-Foreach-clause-found : goal.in_statement-returns-in-Foreach-clause-found
-in_statement-returns-in-Foreach-clause-found t c =
+pub in_body-returns-in-Foreach-clause-found : goal.in_body-returns-in-Foreach-clause-found
+in_body-returns-in-Foreach-clause-found t c =
     let s = frame_site c.args.frame c.args.scope.now.items in
     let at = c.args.stmt.now.at in
     let kind = c.args.stmt.now.kind in
@@ -150,16 +151,8 @@ in_statement-returns-in-Foreach-clause-found t c =
     (c.at_itself-first-in-Foreach.ensures ∙ ap (λ (all : List Variable). noted at c.args.found (statement_rules (frame_site c.args.frame all) (out-StmtKind kind))) c.as_slice-in-Foreach.ensures.value)
     (e ∙ ap (λ (b : Stmt). gathered c.at_itself-first-in-Foreach.result (sites_of (iteration s c.in-Foreach.index) b)) c.get-in-Foreach.ensures)) c.in_iteration.ensures.found
 
-pub in_statement-returns-in_ok-push-in-Local-clause-found : goal.in_statement-returns-in_ok-push-in-Local-clause-found
-in_statement-returns-in_ok-push-in-Local-clause-found t c =
-    let s = frame_site c.args.frame c.args.scope.now.items in
-    let at = c.args.stmt.now.at in
-    let kind = c.args.stmt.now.kind in
-    alone s at c.args.found kind c.at_itself-first-in-Local.result (local_alone s at kind c.in-Local.ctype c.in-Local.name c.in-Local.field-2 c.in-Local.is)
-    (c.at_itself-first-in-Local.ensures ∙ ap (λ (all : List Variable). noted at c.args.found (statement_rules (frame_site c.args.frame all) (out-StmtKind kind))) c.as_slice-in-Local.ensures.value)
-
-pub in_statement-returns-in_default-clause-found : goal.in_statement-returns-in_default-clause-found
-in_statement-returns-in_default-clause-found t c =
+pub in_body-returns-in_default-clause-found : goal.in_body-returns-in_default-clause-found
+in_body-returns-in_default-clause-found t c =
     let s = frame_site c.args.frame c.args.scope.now.items in
     let at = c.args.stmt.now.at in
     let kind = c.args.stmt.now.kind in
@@ -167,8 +160,8 @@ in_statement-returns-in_default-clause-found t c =
     (sites_alone s at kind c.in_default.not-Block c.in_default.not-If c.in_default.not-While c.in_default.not-For c.in_default.not-Cobegin c.in_default.not-Foreach)
     (c.at_itself.ensures ∙ ap (λ (all : List Variable). noted at c.args.found (statement_rules (frame_site c.args.frame all) (out-StmtKind kind))) c.as_slice-in_default.ensures.value)
 
-pub in_statement-returns-in_ok-last-in-For-clause-found : goal.in_statement-returns-in_ok-last-in-For-clause-found
-in_statement-returns-in_ok-last-in-For-clause-found t c =
+pub in_body-returns-in_ok-last-in-For-clause-found : goal.in_body-returns-in_ok-last-in-For-clause-found
+in_body-returns-in_ok-last-in-For-clause-found t c =
     let s = frame_site c.args.frame c.args.scope.now.items in
     let at = c.args.stmt.now.at in
     let kind = c.args.stmt.now.kind in
@@ -185,8 +178,8 @@ in_statement-returns-in_ok-last-in-For-clause-found t c =
     ∙ ap (λ (x : Site). gathered c.in_ok-next-in-For.next (sites_of x c.get-in-For.result.now)) inner
     ∙ ap (λ (b : Stmt). gathered c.in_ok-next-in-For.next (sites_of (after_other s start) b)) c.get-in-For.ensures)
 
-pub in_statement-returns-in_ok-last-in-For-clause-scope : goal.in_statement-returns-in_ok-last-in-For-clause-scope
-in_statement-returns-in_ok-last-in-For-clause-scope t c =
+pub in_body-returns-in_ok-last-in-For-clause-scope : goal.in_body-returns-in_ok-last-in-For-clause-scope
+in_body-returns-in_ok-last-in-For-clause-scope t c =
     let s = frame_site c.args.frame c.args.scope.now.items in
     let start = c.in-For.start in
     let height : c.len-height.result ≡ length c.args.scope.now.items = c.len-height.ensures ∙ c.args.scope.now.ok.0 in
@@ -194,4 +187,3 @@ in_statement-returns-in_ok-last-in-For-clause-scope t c =
     ∙ ap (take c.len-height.result) (c.in_ok-last-in-For.ensures.scope ∙ c.in_ok-next-in-For.ensures.scope ∙ c.in_ok-first-in-For.ensures.scope)
     ∙ ap (λ (n : ℕ). take n (after_other s start).scope) height
     ∙ kept_after_other s start
-    ∙ sym (for_keeps s c.args.stmt.now.kind start c.in-For.field-1 c.in-For.third c.in-For.body c.in-For.is)

@@ -1,6 +1,7 @@
 use Rattle.std.proofs.Common.{◌≡◌, ◌≤◌, length, take, drop}
 use Rattle.lq_names.specs.Faults.{gathered}
 use Rattle.lq_names.specs.Sites.{sites_list, sites_beside, sites_of_bodies}
+use Rattle.lq_names.specs.Scopes.{in_parallel}
 use Rattle.lq_names.specs.Seen.{frame_site}
 use Rattle.lq_names.proofs.statements.+statements.Given as goal
 
@@ -25,5 +26,5 @@ invariant-in_branches-loop-stmt l =
     let s = frame_site l.frame l.fn.scope.items in
     record {
       same : l.scope.items ≡ l.fn.scope.items;
-      so_far : gathered l.found (sites_beside s (drop l.stmt-index l.blocks)) ≡ gathered l.fn.found (sites_beside s l.blocks);
+      so_far : gathered l.found (sites_beside (in_parallel s) (drop l.stmt-index l.blocks)) ≡ gathered l.fn.found (sites_beside (in_parallel s) l.blocks);
     }
