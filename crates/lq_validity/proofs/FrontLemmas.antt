@@ -1,9 +1,8 @@
 -- The rows of the first items.
-use Rattle.std.proofs.Common.{◌≡◌, ℕ, zero, suc, ◌+◌, ◌-◌, ◌<◌, ◌≤◌, ◌^◌, List, [], ◌∷◌, ◌++◌, map, length, get_or, take, drop, reverse, Bool, true, false, refl, sym, ap, ◌∙◌, arith, subst, append_assoc, length-append, length-take}
-use Rattle.std.specs.Prelude.{Contains}
+use Rattle.std.proofs.Common.{◌≡◌, ℕ, zero, suc, ◌-◌, ◌≤◌, ◌^◌, List, [], ◌∷◌, ◌++◌, map, length, get_or, take, drop, reverse, Bool, false, refl, sym, ap, ◌∙◌, arith, subst, length-append, length-take}
 use Rattle.std.specs.List.{AllByRecursion}
 use Rattle.lq_linear.specs.Row.{Inequality}
-use Rattle.lq_linear.specs.Item.{rows, rows_of}
+use Rattle.lq_linear.specs.Item.{rows}
 use Rattle.lq_linear.specs.declared.item.Item.{Item}
 use Rattle.lq_linear.proofs.ItemLemmas.{rows_in, rows-reverse, get_left}
 use Rattle.lq_validity.specs.declared.sum.Sum.{Sum}
@@ -34,7 +33,7 @@ all_take P zero xs h = tt
 all_take P (suc n) [] h = tt
 all_take P (suc n) (x ∷ xs) h = (h.0, all_take P n xs h.1)
 
-rows_split : (items : List Item) (i : ℕ) → rows (reverse items) ≡ rows (reverse (take i items)) ++ rows_in (drop i items)
+pub rows_split : (items : List Item) (i : ℕ) → rows (reverse items) ≡ rows (reverse (take i items)) ++ rows_in (drop i items)
 rows_split items i =
     rows-reverse items ∙ ap rows_in (sym (take_drop i items)) ∙ rows_in-append (take i items) (drop i items)
     ∙ ap (λ l. l ++ rows_in (drop i items)) (sym (rows-reverse (take i items)))

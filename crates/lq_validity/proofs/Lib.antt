@@ -12,3 +12,6 @@ pub mod RowLemmas
 pub mod NarrowLemmas
 pub mod FrontLemmas
 pub mod NarrowedLemmas
+pub mod SpareLemmas
+pub mod OrderLemmas
+pub mod OfferedLemmas

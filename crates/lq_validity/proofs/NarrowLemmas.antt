@@ -1,13 +1,13 @@
 -- What narrowed marks keep.
-use Rattle.std.proofs.Common.{◌≡◌, ℕ, suc, ◌+◌, ◌-◌, ◌<◌, ◌≤◌, ◌⊎◌, inl, inr, Bool, ℤ, pos, negsuc, ◌*ℤ◌, ◌≤ℤ◌, List, [], ◌∷◌, ◌++◌, map, length, get_or, refl, sym, ap, ◌∙◌, arith, subst}
+use Rattle.std.proofs.Common.{◌≡◌, ℕ, suc, ◌+◌, ◌-◌, ◌<◌, ◌≤◌, ◌⊎◌, inl, inr, Bool, pos, ◌≤ℤ◌, List, [], ◌∷◌, ◌++◌, map, length, refl, sym, ap, ◌∙◌, arith, subst}
 use Rattle.std.proofs.lemmas.Int.{ints}
 use Rattle.std.specs.Prelude.{Contains}
 use Rattle.std.specs.List.{AllByRecursion}
-use Rattle.lq_linear.specs.Terms.{coefficient, times}
+use Rattle.lq_linear.specs.Terms.{coefficient}
 use Rattle.lq_linear.specs.Row.{Inequality}
 use Rattle.lq_linear.specs.Item.{row_numbered}
 use Rattle.lq_linear.specs.Weight.{weight_of}
-use Rattle.lq_linear.specs.Derivation.{Part, combined, IsMultiplier, IsConsequence, IsContradiction}
+use Rattle.lq_linear.specs.Derivation.{Part, combined, IsMultiplier, IsConsequence}
 use Rattle.lq_linear.proofs.ItemLemmas.{get_left}
 use Rattle.lq_linear.proofs.Collecting.{all_map}
 use Rattle.lq_linear.proofs.TermsLemmas.{coefficient-times}

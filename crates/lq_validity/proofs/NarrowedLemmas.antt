@@ -1,13 +1,13 @@
 -- A search of narrowed marks finds what a search of all finds.
-use Rattle.std.proofs.Common.{◌≡◌, ℕ, ◌+◌, ◌-◌, ◌<◌, ◌≤◌, inl, inr, Bool, true, false, List, [], ◌∷◌, length, get_or, refl, sym, ap, ◌∙◌, arith, subst}
-use Rattle.std.proofs.lemmas.Bool.{true≢false, cases_Bool}
+use Rattle.std.proofs.Common.{◌≡◌, ℕ, ◌+◌, inl, inr, Bool, true, false, List, [], ◌∷◌, length, refl, sym, ap, ◌∙◌, arith, subst}
+use Rattle.std.proofs.lemmas.Bool.{cases_Bool}
 use Rattle.std.specs.Prelude.{Option, Some, Contains, ◌⊎◌}
 use Rattle.std.specs.List.{AllByRecursion}
 use Rattle.lq_linear.specs.Row.{Inequality}
-use Rattle.lq_linear.specs.Derivation.{Part, Combination, IsMultiplier}
+use Rattle.lq_linear.specs.Derivation.{Combination, IsMultiplier}
 use Rattle.lq_linear.specs.declared.combination.TheConstants.{WIDTH}
 use Rattle.lq_linear.proofs.Collecting.{all_map}
-use Rattle.lq_validity.specs.Order.{Before, numbers_of}
+use Rattle.lq_validity.specs.Order.{Before}
 use Rattle.lq_validity.specs.Marks.{IsMarked}
 use Rattle.lq_validity.specs.Families.{WithFew, WithMore, FindsFirst}
 use Rattle.lq_validity.specs.Narrow.{AreMarked, KeepsConsequences, KeepsContradictions}
@@ -17,7 +17,7 @@ use Rattle.lq_validity.proofs.MultipliedLemmas.{finds_map, finds_at}
 use Rattle.lq_validity.proofs.PositionLemmas.{few_first}
 use Rattle.lq_validity.proofs.KnownLemmas.{all_numbers, all_parts}
 
-both_all : {X : Type 0} (P Q : X → Type 0) (xs : List X) → AllByRecursion P xs → AllByRecursion Q xs → AllByRecursion (λ x. P x × Q x) xs
+pub both_all : {X : Type 0} (P Q : X → Type 0) (xs : List X) → AllByRecursion P xs → AllByRecursion Q xs → AllByRecursion (λ x. P x × Q x) xs
 both_all P Q [] h k = tt
 both_all P Q (x ∷ xs) h k = ((h.0, k.0), both_all P Q xs h.1 k.1)
 
@@ -76,3 +76,9 @@ narrowed_both multipliers all goal marks useful voids both k v f g q found h =
       | inr e ↦ all_map (λ part. IsMarked useful part.1) (λ part. IsMarked both part.1) (λ part u. g part.1 u) c.parts (k.kept c.parts c.divisor m s.divides (consequence_of all goal c.void c.divisor c.parts e s.proves))
     ])
     found h
+
+-- where marks were narrowed before
+pub narrowed_left : (multipliers : List ℕ) (all : List Inequality) (goal : Inequality) (marks left : List Bool) → KeepsConsequences multipliers marks left all goal → KeepsContradictions multipliers marks left all
+    → (found : Option Combination) → FindsFirst (WithFew multipliers (IsMarked left) all goal false (WIDTH + 1)) found → FindsFirst (WithFew multipliers (IsMarked marks) all goal false (WIDTH + 1)) found
+narrowed_left multipliers all goal marks left k v found h =
+    narrowed_both multipliers all goal marks left left left k v (λ n m. inl m) (λ n m. m) (λ n m. m) found h

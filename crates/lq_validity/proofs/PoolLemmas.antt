@@ -1,8 +1,7 @@
 -- The multiples of facts, and the table of their sums.
-use Rattle.std.proofs.Common.{◌≡◌, ℕ, ◌+◌, ◌-◌, ◌<◌, ◌≤◌, ◌⊎◌, inl, inr, ℤ, pos, ◌+ℤ◌, List, [], ◌∷◌, ◌++◌, length, get_or, refl, sym, ap, ◌∙◌, arith, subst, length-append}
+use Rattle.std.proofs.Common.{◌≡◌, ℕ, ◌-◌, ◌⊎◌, inl, inr, ℤ, ◌+ℤ◌, List, [], ◌∷◌, ◌++◌, length, get_or, sym, ap, ◌∙◌, arith, subst, length-append}
 use Rattle.std.proofs.lemmas.Int.{ints}
 use Rattle.std.proofs.lemmas.Bool.{cases_lt}
-use Rattle.std.proofs.lemmas.List.{get_or_read}
 use Rattle.std.specs.Prelude.{Contains, OnOk, Result, Ok, Err, Some}
 use Rattle.std.specs.Ordering.{int_eq}
 use Rattle.std.specs.HashMap.{get}
@@ -10,7 +9,7 @@ use Rattle.lq_linear.proofs.ItemLemmas.{get_left, get_right}
 use Rattle.lq_validity.specs.declared.pool.Multiple.{Multiple}
 use Rattle.lq_validity.specs.Sum.{plus}
 use Rattle.lq_validity.specs.Table.{Table, HasAtMost, PutsSum}
-use Rattle.lq_validity.specs.Pool.{no_multiple, HasSums, PutsPairs}
+use Rattle.lq_validity.specs.Pool.{HasSums, PutsPairs}
 
 pub last_in : {X : Type 0} (xs : List X) (x : X) → Contains (xs ++ x ∷ []) x
 last_in xs x = (length xs, omega (arith, length-append xs (x ∷ [])), get_right xs (x ∷ []) (length xs) x (omega arith) ∙ first (length xs - length xs) (omega arith)) where

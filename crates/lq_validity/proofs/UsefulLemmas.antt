@@ -1,11 +1,11 @@
 -- Every fact of a combination that gives a goal is useful.
-use Rattle.std.proofs.Common.{◌≡◌, ℕ, zero, suc, ◌+◌, ◌-◌, ◌*◌, ◌/◌, ◌<◌, ◌≤◌, ◌⊎◌, inl, inr, Bool, true, false, ℤ, pos, negsuc, ◌+ℤ◌, ◌-ℤ◌, ◌*ℤ◌, ◌≤ℤ◌, List, [], ◌∷◌, ◌++◌, map, length, get_or, refl, sym, ap, ◌∙◌, arith, subst, append_assoc, length-append}
+use Rattle.std.proofs.Common.{◌≡◌, ℕ, zero, suc, ◌-◌, ◌/◌, ◌<◌, ◌≤◌, inl, inr, Bool, ℤ, pos, negsuc, ◌+ℤ◌, ◌-ℤ◌, ◌*ℤ◌, ◌≤ℤ◌, List, [], ◌∷◌, ◌++◌, map, length, get_or, refl, sym, ap, ◌∙◌, arith, subst, append_assoc, length-append}
 use Rattle.std.proofs.Math.Nat.{mul-le-mul_left}
 use Rattle.std.proofs.lemmas.Int.{ints}
 use Rattle.std.proofs.lemmas.Bool.{cases_Bool}
 use Rattle.std.specs.Prelude.{Contains}
 use Rattle.std.specs.List.{AllByRecursion}
-use Rattle.lq_linear.specs.Terms.{coefficient, times, terms_value}
+use Rattle.lq_linear.specs.Terms.{coefficient, times}
 use Rattle.lq_linear.specs.Row.{Inequality, nothing}
 use Rattle.lq_linear.specs.Weight.{symbol_weight, weight_of}
 use Rattle.lq_linear.specs.Item.{row_numbered}
@@ -13,13 +13,13 @@ use Rattle.lq_linear.specs.Derivation.{Part, combined, floor, IsConsequence, IsC
 use Rattle.lq_linear.proofs.TermsLemmas.{value-append, value-times, value-alike}
 use Rattle.lq_linear.proofs.Collecting.{is_zero, zero_if, zero_unless}
 use Rattle.lq_linear.proofs.CombinationLemmas.{combined_coefficient}
-use Rattle.lq_linear.proofs.LawLemmas.{all_append, multiple_le}
+use Rattle.lq_linear.proofs.LawLemmas.{all_append}
 use Rattle.lq_validity.specs.declared.sum.Sum.{Sum}
 use Rattle.lq_validity.specs.declared.pool.Multiple.{Multiple}
 use Rattle.lq_validity.specs.Marks.{IsMarked}
-use Rattle.lq_validity.specs.Sum.{sum_of, no_sum, multiple, plus, part_sum, parts_sum}
+use Rattle.lq_validity.specs.Sum.{sum_of, multiple, plus, part_sum, parts_sum}
 use Rattle.lq_validity.specs.Table.{Table, HasAtMost, Completes}
-use Rattle.lq_validity.specs.Pool.{HasSums, HasMultiples, multiple_at, Serves, AreUseful}
+use Rattle.lq_validity.specs.Pool.{HasSums, HasMultiples, multiple_at, AreUseful}
 use Rattle.lq_validity.specs.Narrow.{wanted_for}
 use Rattle.lq_validity.proofs.SumLemmas.{same_sum}
 use Rattle.lq_validity.proofs.TableLemmas.{same_weight}

@@ -8,4 +8,5 @@ pub mod Table
 pub mod Pool
 pub mod Narrow
 pub mod Known
+pub mod Spare
 pub mod Index

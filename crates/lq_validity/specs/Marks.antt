@@ -28,3 +28,8 @@ pub record AreEither (first second both : List Bool) : Type 0 where
   pub either : (number : ℕ) → IsMarked both number → IsMarked first number ⊎ IsMarked second number
   pub first_kept : (number : ℕ) → IsMarked first number → IsMarked both number
   pub second_kept : length second ≡ length first → (number : ℕ) → IsMarked second number → IsMarked both number
+
+-- the marks of both lists
+pub record AreBoth (first second both : List Bool) : Type 0 where
+  pub count : length both ≡ length first
+  pub right : (number : ℕ) → IsMarked both number ↔ (IsMarked first number × IsMarked second number)

@@ -1,11 +1,11 @@
 -- The multiples of facts, and the table of their sums. Helpers of private functions.
-use Rattle.std.specs.Prelude.{◌≡◌, ℕ, ◌^◌, ◌⊎◌, ◌-◌, Bool, true, List, length, ℤ, pos, Contains, slice_index_or}
+use Rattle.std.specs.Prelude.{◌≡◌, ℕ, ◌^◌, ◌⊎◌, Bool, true, List, length, ℤ, pos, Contains}
 use Rattle.std.specs.List.{AllByRecursion}
 use Rattle.lq_linear.specs.Derivation.{Part}
 use Rattle.lq_validity.specs.declared.sum.Sum.{Sum}
 use Rattle.lq_validity.specs.declared.pool.Multiple.{Multiple}
 use Rattle.lq_validity.specs.Marks.{IsMarked}
-use Rattle.lq_validity.specs.Sum.{plus, multiple, no_sum, IsNear, part_sum}
+use Rattle.lq_validity.specs.Sum.{plus, no_sum, IsNear, part_sum}
 use Rattle.lq_validity.specs.Table.{Table, HasAtMost, CompletesSome}
 
 -- no multiple

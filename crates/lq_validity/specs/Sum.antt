@@ -1,5 +1,5 @@
 -- Sums of multiples of rows, as far as weights tell. Helpers of private functions.
-use Rattle.std.specs.Prelude.{ℕ, ◌-◌, List, [], ◌∷◌, ℤ, pos, ◌+ℤ◌, ◌*ℤ◌, slice_index_or}
+use Rattle.std.specs.Prelude.{ℕ, ◌-◌, List, [], ◌∷◌, pos, ◌+ℤ◌, ◌*ℤ◌, slice_index_or}
 use Rattle.lq_linear.specs.Terms.{IsWithin}
 use Rattle.lq_linear.specs.Row.{Inequality}
 use Rattle.lq_linear.specs.Weight.{weight_of}

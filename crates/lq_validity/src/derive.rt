@@ -5,10 +5,11 @@ ghost use Rattle.lq_linear.specs.Derivation.{Derives};
 ghost use Rattle.lq_validity.specs.Order.{IsFirst};
 ghost use Rattle.lq_validity.specs.Derives.{Gives, AreExacts};
 
-use crate::index::Index;
+use crate::index::GoalIndex;
 use crate::mults::Mults;
 use lq_linear::{Cert, Facts, Row};
 use std::alloc::{AllocError, Global};
+use std::slice;
 
 /// The first combination of facts that gives the goal, with the first ones for the dividends that
 /// aren't negative, or `None` exactly where the facts don't derive the goal (docs/CHECKING.md,
@@ -26,5 +27,5 @@ pub fn derives(
     ensures exacts { IfOk result (λ r. IfSome r
         (λ cert. AreExacts mults.now (reverse facts.now.items) cert.exacts)) }
 {
-    Index::of(alloc, facts, mults)?.find(goal)
+    GoalIndex::of(alloc, facts, slice::from_ref(goal), mults)?.find(goal)
 }

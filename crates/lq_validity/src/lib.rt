@@ -4,17 +4,20 @@
 mod derive;
 mod index;
 mod known;
+mod laws;
 mod marks;
 mod mults;
 mod narrow;
 mod pool;
 mod rows;
 mod search;
+mod spare;
 mod sum;
 mod table;
 #[cfg(test)]
 mod tests;
 
 pub use derive::derives;
-pub use index::Index;
+pub use index::{GoalIndex, Index};
+pub use laws::combinations_stand_in_order;
 pub use mults::Mults;

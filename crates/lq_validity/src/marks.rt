@@ -1,7 +1,7 @@
 //! Marks on the rows that are facts.
 
 ghost use Rattle.std.specs.Prelude.{◌↔◌, ◌^◌, ◌<◌, IsTrue, IfOk, OnOk, length};
-ghost use Rattle.lq_validity.specs.Marks.{AddsMarks, IsMarked, AreEither};
+ghost use Rattle.lq_validity.specs.Marks.{AddsMarks, IsMarked, AreEither, AreBoth};
 
 use lq_linear::{Item, is_row_fact};
 use std::alloc::{AllocError, Global};
@@ -35,6 +35,22 @@ pub(crate) fn either_marked(
     let mut both = Vec::new(alloc);
     for (place, mark) in first.iter().enumerate() {
         both.push(*mark || is_marked(second, place as u32 + 1))?;
+    }
+    Ok(both)
+}
+
+/// Marks what is marked in both lists.
+pub(crate) fn both_marked(
+    alloc: Global,
+    first: &[bool],
+    second: &[bool],
+) -> Result<Vec<bool>, AllocError>
+    requires { length first.now < 2 ^ 32 }
+    ensures { IfOk result (λ both. AreBoth first.now second.now both.items) }
+{
+    let mut both = Vec::new(alloc);
+    for (place, mark) in first.iter().enumerate() {
+        both.push(*mark && is_marked(second, place as u32 + 1))?;
     }
     Ok(both)
 }

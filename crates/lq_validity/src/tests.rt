@@ -1,5 +1,7 @@
-use crate::{Index, Mults, derives};
+use crate::{GoalIndex, Index, Mults, derives};
 use lq_linear::{Cert, Combo, Divisor, Exact, Facts, Form, Item, Row};
+use lq_quals::read_quals;
+use lq_tree::PProgram;
 use sqlite_items::Items;
 use std::alloc::Global;
 use std::test::Fail;
@@ -42,6 +44,38 @@ fn multipliers_are_listed(rt: HostRuntime) {
         let made = Mults::list(rest);
         assert_eq!(rt; made.as_ref().map(|m| m.numbers()), want, "at {rest:?}");
     }
+}
+
+/// A program with these factors.
+fn program(alloc: Global, factors: &[i64]) -> Result<PProgram, Fail> {
+    Ok(PProgram {
+        structs: Items::new(alloc),
+        funcs: Items::new(alloc),
+        main: 0,
+        factors: Items::from_slice(alloc, factors)?,
+    })
+}
+
+#[test]
+fn multipliers_of_a_program_and_its_qualifiers(rt: HostRuntime) -> Result<(), Fail> {
+    let cases: [(&[i64], &[u8], &[u32]); 9] = [
+        (&[], b"", &[1]),
+        (&[7], b"", &[1, 7]),
+        (&[], b"0 <= k\n", &[1]),
+        (&[3, 5], b"2*i <= j\n", &[1, 2, 3]),
+        (&[], b"@ < 4*i + 4\n", &[1, 4]),
+        (&[], b"4*i == 9*j\nk <= 64*n\n", &[1, 4, 9]),
+        (&[3], b"3*i <= 5\n", &[1, 3]),
+        (&[64], b"65*i <= j\n63*j <= 2\n", &[1, 63, 64]),
+        (&[1, 65, -2], b"k <= 8\n", &[1]),
+    ];
+    for (factors, text, want) in cases {
+        let p = program(rt.alloc(), factors)?;
+        let q = read_quals(rt.alloc(), text)?;
+        let mults = Mults::of(&p, &q);
+        assert_eq!(rt; mults.numbers(), want, "at {factors:?}");
+    }
+    Ok(())
 }
 
 type Parts = &'static [(u32, u32)];
@@ -224,6 +258,36 @@ fn searches_an_index_of_511_facts(rt: HostRuntime) -> Result<(), Fail> {
         let goal = row(rt.alloc(), &[(0, 1), (last, -1)], most)?;
         let cert = index.find(&goal)?;
         let found = cert.as_ref().map(|c| found_in(&c.goal));
+        assert_eq!(rt; found, want, "at {goal:?}");
+    }
+    Ok(())
+}
+
+#[test]
+fn searches_an_index_for_some_goals(rt: HostRuntime) -> Result<(), Fail> {
+    // No goal has the symbol 9, so the first fact is left out. The numbers of the others stay.
+    let rows: [(Terms, i64); 3] = [
+        (&[(9, 1)], 5),
+        (&[(0, 1), (1, -1)], -1),
+        (&[(1, 1), (2, -1)], -1),
+    ];
+    let known = facts(rt.alloc(), &rows)?;
+    assert!(rt; known.items.len() <= 3);
+    let mults = Mults::list(&[]).ok_or("no multipliers")?;
+    let mut goals = Vec::new(rt.alloc());
+    goals.push(row(rt.alloc(), &[(0, 1), (1, -1)], -1)?)?;
+    goals.push(row(rt.alloc(), &[(0, 1), (2, -1)], -2)?)?;
+    goals.push(row(rt.alloc(), &[(0, 1), (2, -1)], -3)?)?;
+    let wants: [Option<Found>; 3] = [
+        Some((false, 1, &[(1, 2)])),
+        Some((false, 1, &[(1, 2), (1, 3)])),
+        None,
+    ];
+    let index = GoalIndex::of(rt.alloc(), &known, goals.as_slice(), &mults)?;
+    for (place, goal) in goals.iter().enumerate() {
+        let cert = index.find(goal)?;
+        let found = cert.as_ref().map(|c| found_in(&c.goal));
+        let want = wants.get(place).copied().unwrap_or(None);
         assert_eq!(rt; found, want, "at {goal:?}");
     }
     Ok(())

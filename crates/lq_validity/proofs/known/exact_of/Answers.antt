@@ -1,4 +1,4 @@
-use Rattle.std.proofs.Common.{◌≡◌, ◌+◌, Bool, true, List, length, reverse, sym, ap, ◌∙◌, subst, arith}
+use Rattle.std.proofs.Common.{◌+◌, Bool, true, List, length, reverse, ap, subst, arith}
 use Rattle.std.specs.Prelude.{IfOk}
 use Rattle.lq_linear.specs.Row.{Inequality}
 use Rattle.lq_linear.specs.Item.{rows, dividend_row}
@@ -7,7 +7,7 @@ use Rattle.lq_validity.specs.Marks.{IsMarked}
 use Rattle.lq_validity.specs.Families.{WithFew, FindsFirst}
 use Rattle.lq_validity.specs.Narrow.{KeepsConsequences}
 use Rattle.lq_validity.proofs.MarkLemmas.{if_ok}
-use Rattle.lq_validity.proofs.NarrowedLemmas.{narrowed_direct, first_without}
+use Rattle.lq_validity.proofs.NarrowedLemmas.{narrowed_direct}
 use Rattle.lq_validity.proofs.known.exact_of.Goals as goal
 
 pub first-requires-clause-marks : goal.first-requires-clause-marks
@@ -16,8 +16,8 @@ first-requires-clause-marks c = omega (arith, c.in_ok-useful.ensures.count, c.re
 pub returns : goal.returns
 returns c =
     let m = c.args.multipliers.now in
-    let all = rows (reverse c.args.before.now) in
-    let marks = c.args.marks.now in
+    let all = rows (reverse c.args.before.now.items.now) in
+    let marks = c.args.before.now.marks.now in
     let useful = c.in_ok-useful.useful.items in
     let wanted = dividend_row c.args.item.now in
     let keeps : KeepsConsequences m marks useful all wanted

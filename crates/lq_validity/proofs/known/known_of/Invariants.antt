@@ -11,5 +11,5 @@ invariant-loop-place l = record {
   count : l.divisions ≡ divisions (reverse (take l.place l.items));
   near : AreNear l.pool.multiples.items;
   has : HasSums l.pool.multiples.items l.pool.table;
-  there : HasMultiples l.multipliers (IsMarked l.marks.items) l.sums l.pool.multiples.items;
+  there : HasMultiples l.multipliers (λ n. IsMarked l.marks.items n × IsMarked l.left n) l.sums l.pool.multiples.items;
 }

@@ -1,5 +1,4 @@
-use Rattle.std.proofs.Common.{◌≡◌, ℕ, ◌+◌, ◌<◌, true, false, get_or, length, ◌⊎◌}
-use Rattle.lq_validity.specs.Marks.{IsMarked}
+use Rattle.std.proofs.Common.{◌≡◌, ℕ, ◌<◌, true, false, get_or, length, ◌⊎◌}
 use Rattle.lq_validity.proofs.marks.either_marked.Given as goal
 
 abbrev pub invariant-loop-place : goal.invariant-loop-place

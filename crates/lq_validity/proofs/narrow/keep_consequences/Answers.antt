@@ -1,5 +1,4 @@
-use Rattle.std.proofs.Common.{◌≡◌, ◌∙◌, sym, ap, subst, List, pos, of_z, w64, arith}
-use Rattle.std.proofs.lemmas.Int.{ints}
+use Rattle.std.proofs.Common.{◌≡◌, ◌∙◌, ap, subst, List, pos, of_z, w64}
 use Rattle.std.specs.Prelude.{IfOk, Bool}
 use Rattle.lq_linear.specs.Terms.{coefficient}
 use Rattle.lq_validity.specs.declared.sum.Sum.{Sum}

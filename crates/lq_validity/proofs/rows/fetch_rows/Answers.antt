@@ -1,4 +1,4 @@
-use Rattle.std.proofs.Common.{◌≡◌, ◌+◌, [], ◌∷◌, ◌++◌, take, reverse, sym, ap, ◌∙◌, append-nil}
+use Rattle.std.proofs.Common.{[], ◌∷◌, ◌++◌, take, sym, ap, ◌∙◌, append-nil}
 use Rattle.std.proofs.lemmas.List.{take_more, take_all}
 use Rattle.lq_linear.specs.Item.{rows_of}
 use Rattle.lq_linear.proofs.ItemLemmas.{rows_in, rows-reverse}

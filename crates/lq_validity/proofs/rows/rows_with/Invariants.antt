@@ -1,4 +1,4 @@
-use Rattle.std.proofs.Common.{◌≡◌, ℕ, ◌+◌, ◌<◌, pos, true, false, get_or, length}
+use Rattle.std.proofs.Common.{◌≡◌, ℕ, ◌<◌, pos, true, false, get_or, length}
 use Rattle.lq_linear.specs.Terms.{coefficient}
 use Rattle.lq_linear.specs.Row.{nothing}
 use Rattle.lq_validity.proofs.rows.rows_with.Given as goal

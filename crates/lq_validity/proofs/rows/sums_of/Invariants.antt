@@ -1,6 +1,4 @@
-use Rattle.std.proofs.Common.{◌≡◌, ◌^◌, map, take}
-use Rattle.std.specs.List.{AllByRecursion}
-use Rattle.lq_validity.specs.Sum.{sum_of, IsNear}
+use Rattle.std.proofs.Common.{take}
 use Rattle.lq_validity.specs.Narrow.{AreWeighed}
 use Rattle.lq_validity.proofs.rows.sums_of.Given as goal
 

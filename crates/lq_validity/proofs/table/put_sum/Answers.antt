@@ -1,9 +1,9 @@
-use Rattle.std.proofs.Common.{◌≡◌, ◌≤ℤ◌, sym, ap, ◌∙◌, subst, arith, to_z, of_z, ℤ}
+use Rattle.std.proofs.Common.{◌≡◌, subst, arith, to_z, of_z}
 use mir.Syntax.{w128}
 use Rattle.std.proofs.lemmas.Int.{ints}
 use Rattle.std.specs.Ordering.{int_eq}
 use Rattle.std.specs.Prelude.{Some}
-use Rattle.std.specs.HashMap.{get, Updates}
+use Rattle.std.specs.HashMap.{Updates}
 use Rattle.lq_validity.proofs.TableLemmas.{found_there, not_found, found_same, puts_over}
 use Rattle.lq_validity.proofs.table.put_sum.Goals as goal
 use Rattle.lq_validity.proofs.table.put_sum.Goals.{in-Some+else-most-sum, in_default}

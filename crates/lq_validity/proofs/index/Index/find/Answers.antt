@@ -1,34 +1,16 @@
-use Rattle.std.proofs.Common.{◌+◌, false, reverse, subst}
-use Rattle.lq_linear.specs.Item.{rows}
+use Rattle.std.proofs.Common.{reverse, subst}
+use Rattle.std.specs.Prelude.{IfOk, IfNone, IfSome}
 use Rattle.lq_linear.specs.Derivation.{Derives}
-use Rattle.lq_linear.specs.declared.combination.TheConstants.{WIDTH}
-use Rattle.lq_validity.specs.Marks.{IsMarked}
 use Rattle.lq_validity.specs.Order.{IsFirst}
 use Rattle.lq_validity.specs.Derives.{Gives}
 use Rattle.lq_validity.specs.Index.{Indexed}
-use Rattle.lq_validity.specs.Families.{WithFew, FindsFirst}
-use Rattle.lq_validity.proofs.MultipliedLemmas.{finds_at}
-use Rattle.lq_validity.proofs.KnownLemmas.{goal_found, goal_missing}
 use Rattle.lq_validity.proofs.index.Index.find.Goals as goal
 
-pub returns-in-None-clause-none : goal.returns-in-None-clause-none
-returns-in-None-clause-none c =
-    let parts = c.self.inside.parts in
-    let m = parts.multipliers.now in
-    let items = reverse parts.items.now in
-    let wanted = c.args.goal.now in
-    let marks = parts.known.marks.items in
-    subst (λ (i : Indexed). Derives i.multipliers (reverse i.items) wanted → ⊥) c.self.view_is
-    (goal_missing m items wanted marks c.self.invariant.known.marked
-    (subst (FindsFirst (WithFew m (IsMarked marks) (rows items) wanted false (WIDTH + 1))) c.in-None.is c.in_ok-first.ensures))
+pub find-requires-clause-serving : goal.find-requires-clause-serving
+find-requires-clause-serving c = c.self.invariant.1 c.args.goal.now
 
-pub returns-in_ok-copy_exacts-in-Some-clause-goal : goal.returns-in_ok-copy_exacts-in-Some-clause-goal
-returns-in_ok-copy_exacts-in-Some-clause-goal c =
-    let parts = c.self.inside.parts in
-    let m = parts.multipliers.now in
-    let items = reverse parts.items.now in
-    let wanted = c.args.goal.now in
-    let marks = parts.known.marks.items in
-    subst (λ (i : Indexed). IsFirst (Gives i.multipliers (reverse i.items) wanted) c.in-Some.combo) c.self.view_is
-    (goal_found m items wanted marks c.self.invariant.known.marked c.in-Some.combo
-    (finds_at (WithFew m (IsMarked marks) (rows items) wanted false (WIDTH + 1)) c.in_ok-first.field-0 c.in-Some.combo c.in-Some.is c.in_ok-first.ensures))
+pub returns-clause-none : goal.returns-clause-none
+returns-clause-none c = subst (λ (i : Indexed). IfOk c.find.result (λ r. IfNone r (Derives i.multipliers (reverse i.items) c.args.goal.now → ⊥))) c.self.view_is c.find.ensures.none
+
+pub returns-clause-goal : goal.returns-clause-goal
+returns-clause-goal c = subst (λ (i : Indexed). IfOk c.find.result (λ r. IfSome r (λ cert. IsFirst (Gives i.multipliers (reverse i.items) c.args.goal.now) cert.goal))) c.self.view_is c.find.ensures.goal

@@ -1,4 +1,4 @@
-use Rattle.std.proofs.Common.{[], ◌∷◌, ◌++◌, sym, ◌∙◌, subst}
+use Rattle.std.proofs.Common.{sym, ◌∙◌, subst}
 use Rattle.std.specs.Prelude.{OnOk}
 use Rattle.lq_validity.specs.Pool.{HasSums, PutsPairs}
 use Rattle.lq_validity.proofs.PoolLemmas.{sums_more_on_ok}

@@ -1,4 +1,4 @@
-use Rattle.std.proofs.Common.{ℕ, ◌≤◌}
+use Rattle.std.proofs.Common.{◌≤◌}
 use Rattle.lq_validity.specs.Marks.{IsMarked}
 use Rattle.lq_validity.specs.Pool.{PutsFacts}
 use Rattle.lq_validity.proofs.pool.Pool.put_facts.Given as goal

@@ -1,7 +1,4 @@
-use Rattle.std.proofs.Common.{ℕ, ◌<◌, get_or, arith, subst, below_more}
-use Rattle.std.specs.Prelude.{Contains}
-use Rattle.lq_validity.specs.declared.sum.Sum.{Sum}
-use Rattle.lq_validity.specs.declared.pool.Multiple.{Multiple}
+use Rattle.std.proofs.Common.{get_or, arith, subst, below_more}
 use Rattle.lq_validity.specs.Sum.{plus}
 use Rattle.lq_validity.specs.Table.{HasAtMost, PutsSum}
 use Rattle.lq_validity.specs.Pool.{no_multiple}

@@ -1,4 +1,4 @@
-use Rattle.std.proofs.Common.{◌⊎◌, inl, inr, arith, subst, sym}
+use Rattle.std.proofs.Common.{◌⊎◌, inl, inr, arith}
 use Rattle.std.proofs.lemmas.Bool.{both_ways}
 use Rattle.lq_validity.specs.declared.pool.Multiple.{Multiple}
 use Rattle.lq_validity.specs.Marks.{IsMarked}

@@ -1,4 +1,4 @@
-use Rattle.std.proofs.Common.{◌≡◌, eqb-true, ap, ◌∙◌, of_z, reverse}
+use Rattle.std.proofs.Common.{eqb-true, ap, ◌∙◌, of_z, reverse}
 use mir.Syntax.{w128}
 use Rattle.lq_linear.specs.Item.{rows}
 use Rattle.lq_linear.specs.Derivation.{IsContradiction}

@@ -1,4 +1,4 @@
-use Rattle.std.proofs.Common.{◌≡◌, pos, ◌*ℤ◌, ◌<◌, subst, sym, ap, arith, to_z, of_z}
+use Rattle.std.proofs.Common.{◌≡◌, pos, ◌*ℤ◌, ◌<◌, subst, sym, arith, to_z, of_z}
 use mir.Syntax.{w128}
 use Rattle.std.proofs.lemmas.Int.{ints}
 use Rattle.lq_validity.specs.declared.sum.Sum.{Sum}

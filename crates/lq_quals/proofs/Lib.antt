@@ -1,0 +1,14 @@
+pub mod SpacingLemmas
+pub mod SplitLemmas
+pub mod CollectLemmas
+pub mod TermLemmas
+pub mod SideLemmas
+pub mod SideReading
+pub mod QualsLemmas
+pub mod NumberingLemmas
+pub mod GrowthLemmas
+pub mod WritingLemmas
+pub mod SpellingLemmas
+pub mod BlanksLemmas
+pub mod AgainLemmas
+pub mod BackLemmas

@@ -1,0 +1,6 @@
+use Rattle.lq_quals.specs.Split.{is_times}
+use Rattle.lq_quals.proofs.SplitLemmas.{cut_made}
+use Rattle.lq_quals.proofs.split.before_times.Goals as goal
+
+pub returns : goal.returns
+returns c = cut_made is_times c.args.text.now c.split_at.result.0.now c.split_at.result.1.now _ (cc) c.split_at.ensures.front c.split_at.ensures.back

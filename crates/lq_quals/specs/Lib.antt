@@ -1,0 +1,10 @@
+pub mod Reading
+pub mod Split
+pub mod Spacing
+pub mod Term
+pub mod Side
+pub mod Comparison
+pub mod Collect
+pub mod Qualifier
+pub mod Quals
+pub mod Writing
