@@ -1,20 +1,20 @@
 -- How the picks of a command are read, and why they may not be.
-use Rattle.std.proofs.Common.{◌≡◌, ℕ, ◌+◌, ◌<◌, ◌≤◌, ℤ, pos, List, length, map, unsigned_abs, sym, ◌∙◌, subst, refl}
+use Rattle.std.proofs.Common.{◌≡◌, ℕ, ◌+◌, ◌<◌, ◌≤◌, ℤ, pos, List, length, map, unsigned_abs, sym, ap, ◌∙◌, subst, refl}
 use Rattle.std.proofs.lemmas.List.{length-map}
 use Rattle.lq_text.specs.Numbers.{IsNumbersFile, IsFirstBadLine}
 use Rattle.lq_text.specs.declared.numbers.NumbersFault.{NumbersFault}
 use Rattle.lq_text.specs.declared.numbers.NumbersFault.TheVariants.{BadLine, NoMemory as NoNumbersMemory}
 use Rattle.lq_shelf.specs.Shelf.{Holding, AreFirstOf}
-use Rattle.lq_cli.specs.declared.answer.Quantity.{Quantity}
-use Rattle.lq_cli.specs.declared.answer.Quantity.TheVariants.{PickBytes as PickBytesQuantity, PickNumbers}
+use Rattle.lq_tree.specs.declared.limit.Limit.{Limit as PassedLimit}
+use Rattle.lq_tree.specs.declared.limit.Quantity.TheVariants.{PickBytes as BytesOfPicks, PickNumbers}
+use Rattle.lq_tree.specs.Limit.{passed}
 use Rattle.lq_cli.specs.declared.answer.Answer.{Answer}
 use Rattle.lq_cli.specs.declared.answer.Answer.TheVariants.{BadWords, ReadFault, Limit, Lexical, Annotation, Syntax, Names, Outside, BadPickLine, Literal, Trap, Fuel}
 use Rattle.lq_cli.specs.declared.ready.Stop.{Stop}
 use Rattle.lq_cli.specs.declared.ready.Stop.TheVariants.{Told, NoMemory}
-use Rattle.lq_cli.specs.Lines.{read_fault, limit}
-use Rattle.lq_cli.specs.Answer.{quantity_text, allowed_of}
+use Rattle.lq_cli.specs.Lines.{most, read_fault, limit}
 use Rattle.lq_cli.specs.Command.{Command}
-use Rattle.lq_cli.specs.Liquid.{most_pick_bytes, most_pick_numbers, Fetched, PickBytes, Picked, SliceAnswers, picks_fault, pick_bytes, bad_pick_line, pick_numbers}
+use Rattle.lq_cli.specs.Liquid.{Fetched, PickBytes, Picked, SliceAnswers, picks_fault, pick_bytes, bad_pick_line, pick_numbers}
 use Rattle.lq_cli.specs.Ready.{stop_of_picks, OnTold, Fetches, PicksStop}
 use Rattle.lq_cli.proofs.PickNumbers.{IsNumbersFile-picks}
 
@@ -25,13 +25,12 @@ moved held shelf name other allowed bytes is same f =
 
 module _ (shelf : List ℕ → Holding) (Failed : List ℕ → Type 0) (name : List ℕ) where
   -- a fetch of the picks that stops
-  fetch_tells : (answer : Answer) → Fetches shelf Failed name PickBytesQuantity answer → PicksStop (shelf name) Failed name (Told answer)
+  fetch_tells : (answer : Answer) → Fetches shelf Failed name BytesOfPicks answer → PicksStop (shelf name) Failed name (Told answer)
   fetch_tells (ReadFault other) stops = λ held means c tree s picks same.
       subst (λ (n : List ℕ). SliceAnswers held Failed means c tree s 9 (read_fault n)) (picks ∙ sym stops.0) (picks_fault (subst Failed (sym picks) stops.1))
-  fetch_tells (Limit quantity found) stops = λ held means c tree s picks same.
-      let fetched = moved held shelf name c.picks most_pick_bytes stops.1 picks same stops.3 in
-      subst (λ (n : ℕ). SliceAnswers held Failed means c tree s 7 (limit (quantity_text quantity) n (allowed_of quantity))) (sym stops.2)
-      (subst (λ (q : Quantity). SliceAnswers held Failed means c tree s 7 (limit (quantity_text q) (length stops.1) (allowed_of q))) (sym stops.0) (pick_bytes stops.1 fetched stops.4))
+  fetch_tells (Limit l) stops = λ held means c tree s picks same.
+      let fetched = moved held shelf name c.picks (most BytesOfPicks) stops.0 picks same stops.2 in
+      subst (λ (l : PassedLimit). SliceAnswers held Failed means c tree s 7 (limit l)) (sym stops.1) (pick_bytes stops.0 fetched stops.3)
   fetch_tells BadWords stops = absurd stops
   fetch_tells (Lexical at) stops = absurd stops
   fetch_tells (Annotation at) stops = absurd stops
@@ -43,13 +42,13 @@ module _ (shelf : List ℕ → Holding) (Failed : List ℕ → Type 0) (name : L
   fetch_tells (Trap kind at) stops = absurd stops
   fetch_tells Fuel stops = absurd stops
 
-  pub fetch_stops : (stop : Stop) → OnTold stop (Fetches shelf Failed name PickBytesQuantity) → PicksStop (shelf name) Failed name stop
+  pub fetch_stops : (stop : Stop) → OnTold stop (Fetches shelf Failed name BytesOfPicks) → PicksStop (shelf name) Failed name stop
   fetch_stops NoMemory stops = tt
   fetch_stops (Told answer) stops = fetch_tells answer stops
 
-  module _ (bytes : List ℕ) (fetched : Fetched shelf name most_pick_bytes bytes) (within : length bytes ≤ most_pick_bytes) where
+  module _ (bytes : List ℕ) (fetched : Fetched shelf name (most BytesOfPicks) bytes) (within : length bytes ≤ most BytesOfPicks) where
     held_bytes : (held : List ℕ → Holding) (c : Command) → c.picks ≡ name → held name ≡ shelf name → PickBytes held c bytes
-    held_bytes held c picks same = record { fetched = moved held shelf name c.picks most_pick_bytes bytes picks same fetched; within = within }
+    held_bytes held c picks same = record { fetched = moved held shelf name c.picks (most BytesOfPicks) bytes picks same fetched; within = within }
 
     -- a bad line
     pub numbers_stop : (fault : NumbersFault) → ((number : ℕ) → fault ≡ BadLine number → IsFirstBadLine (pos 0) bytes number) → PicksStop (shelf name) Failed name (stop_of_picks fault)
@@ -57,19 +56,19 @@ module _ (shelf : List ℕ → Holding) (Failed : List ℕ → Type 0) (name : L
     numbers_stop NoNumbersMemory bad = tt
 
     -- too many numbers
-    pub too_many : (numbers : List ℤ) (count : ℕ) → count ≡ length numbers → IsNumbersFile (pos 0) bytes numbers → most_pick_numbers < length numbers → PicksStop (shelf name) Failed name (Told (Limit PickNumbers count))
-    too_many numbers count is_count file past held means c tree s picks same =
+    pub too_many : (numbers : List ℤ) (l : PassedLimit) → l ≡ passed PickNumbers (length numbers) → IsNumbersFile (pos 0) bytes numbers → most PickNumbers < length numbers → PicksStop (shelf name) Failed name (Told (Limit l))
+    too_many numbers l told file past held means c tree s picks same =
         let counted : length (map unsigned_abs numbers) ≡ length numbers = length-map numbers unsigned_abs in
-        subst (λ (n : ℕ). SliceAnswers held Failed means c tree s 7 (limit (quantity_text PickNumbers) n most_pick_numbers)) (counted ∙ sym is_count)
-        (pick_numbers bytes (map unsigned_abs numbers) (held_bytes held c picks same) (IsNumbersFile-picks bytes numbers (map unsigned_abs numbers) file refl) (subst (λ (n : ℕ). most_pick_numbers < n) (sym counted) past))
+        subst (λ (l : PassedLimit). SliceAnswers held Failed means c tree s 7 (limit l)) (ap (passed PickNumbers) counted ∙ sym told)
+        (pick_numbers bytes (map unsigned_abs numbers) (held_bytes held c picks same) (IsNumbersFile-picks bytes numbers (map unsigned_abs numbers) file refl) (subst (λ (n : ℕ). most PickNumbers < n) (sym counted) past))
 
     -- picks
-    pub picked : (numbers : List ℤ) (picks : List ℕ) → IsNumbersFile (pos 0) bytes numbers → length numbers ≤ most_pick_numbers → picks ≡ map unsigned_abs numbers →
+    pub picked : (numbers : List ℤ) (picks : List ℕ) → IsNumbersFile (pos 0) bytes numbers → length numbers ≤ most PickNumbers → picks ≡ map unsigned_abs numbers →
         (held : List ℕ → Holding) (c : Command) → c.picks ≡ name → held name ≡ shelf name → Picked held c picks
     picked numbers picks file within_count same_picks held c is same =
         record {
           bytes = bytes;
           fetched = held_bytes held c is same;
           numbers = IsNumbersFile-picks bytes numbers picks file same_picks;
-          within = subst (λ (l : List ℕ). length l ≤ most_pick_numbers) (sym same_picks) (subst (λ (n : ℕ). n ≤ most_pick_numbers) (sym (length-map numbers unsigned_abs)) within_count);
+          within = subst (λ (l : List ℕ). length l ≤ most PickNumbers) (sym same_picks) (subst (λ (n : ℕ). n ≤ most PickNumbers) (sym (length-map numbers unsigned_abs)) within_count);
         }

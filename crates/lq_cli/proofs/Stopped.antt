@@ -1,16 +1,15 @@
 -- Why a command stops before its run.
-use Rattle.std.proofs.Common.{◌≡◌, ℕ, List, [], ◌∷◌, length, None, Some, refl, sym, subst}
+use Rattle.std.proofs.Common.{◌≡◌, ℕ, List, [], ◌∷◌, None, Some, refl, sym, subst}
 use Rattle.lq_shelf.specs.Shelf.{Holding}
 use Rattle.lq_tree.specs.declared.place.Place.{Place}
 use Rattle.lq_cli.specs.declared.slice.Slice.{Slice}
-use Rattle.lq_cli.specs.declared.answer.Quantity.{Quantity}
-use Rattle.lq_cli.specs.declared.answer.Quantity.TheVariants.{SourceBytes}
+use Rattle.lq_tree.specs.declared.limit.Limit.{Limit as PassedLimit}
+use Rattle.lq_tree.specs.declared.limit.Quantity.TheVariants.{SourceBytes}
 use Rattle.lq_cli.specs.declared.answer.Answer.{Answer}
 use Rattle.lq_cli.specs.declared.answer.Answer.TheVariants.{BadWords, ReadFault, Limit, Lexical, Annotation, Syntax, Names, Outside, BadPickLine, Literal, Trap, Fuel}
 use Rattle.lq_cli.specs.declared.ready.Stop.{Stop}
 use Rattle.lq_cli.specs.declared.ready.Stop.TheVariants.{Told, NoMemory}
 use Rattle.lq_cli.specs.Lines.{read_fault, limit}
-use Rattle.lq_cli.specs.Answer.{quantity_text, allowed_of}
 use Rattle.lq_cli.specs.Command.{Command, Spells}
 use Rattle.lq_cli.specs.Liquid.{Sourced, Picked, Answers, bad_words, source_fault, source_bytes, without_slice, with_slice, refused}
 use Rattle.lq_cli.specs.Literal.{literal_faults, first_of, IsAccepted}
@@ -28,9 +27,8 @@ module _ (held : List ℕ → Holding) (Failed : List ℕ → Type 0) (words : L
 
   source_tells : (c : Command) → Spells words c → (answer : Answer) → Fetches held Failed c.source SourceBytes answer → Stops held Failed words (Told answer)
   source_tells c asked (ReadFault other) stops = λ means. subst (λ (n : List ℕ). Answers held Failed means words 9 (read_fault n)) (sym stops.0) (source_fault c asked stops.1)
-  source_tells c asked (Limit quantity found) stops = λ means.
-      subst (λ (n : ℕ). Answers held Failed means words 7 (limit (quantity_text quantity) n (allowed_of quantity))) (sym stops.2)
-      (subst (λ (q : Quantity). Answers held Failed means words 7 (limit (quantity_text q) (length stops.1) (allowed_of q))) (sym stops.0) (source_bytes c stops.1 asked stops.3 stops.4))
+  source_tells c asked (Limit l) stops = λ means.
+      subst (λ (l : PassedLimit). Answers held Failed means words 7 (limit l)) (sym stops.1) (source_bytes c stops.0 asked stops.2 stops.3)
   source_tells c asked BadWords stops = absurd stops
   source_tells c asked (Lexical at) stops = absurd stops
   source_tells c asked (Annotation at) stops = absurd stops

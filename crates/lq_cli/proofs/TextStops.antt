@@ -1,6 +1,6 @@
 -- Why a text is no source of the slice, as it is told.
-use Rattle.std.proofs.Common.{◌≡◌, ◌≢◌, ℕ, ◌<◌, ◌≤◌, List, [], ◌∷◌, ◌++◌, length, take, true, false, Result, Ok, Err, Some, inl, inr, refl, sym, ap, ◌∙◌, subst, ⊎_elim, arith}
-use Rattle.std.specs.Prelude.{codes, All, IfNone, IsOk, MatchResult, ⊤, Bool, ◌⊎◌, if◌then◌else◌, nat_lt, Option, None}
+use Rattle.std.proofs.Common.{◌≡◌, ◌≢◌, ℕ, ◌<◌, ◌≤◌, List, [], ◌∷◌, ◌++◌, length, take, true, false, Result, Ok, Err, Some, sym, ap, ◌∙◌, subst, ⊎_elim, arith}
+use Rattle.std.specs.Prelude.{codes, All, IfNone, IsOk, MatchResult, ⊤, Option, None}
 use Rattle.std.proofs.lemmas.Bool.{cases_lt}
 use Rattle.std.proofs.lemmas.List.{length-append}
 use Rattle.std.proofs.Math.Seq.{get_or-append_seam}
@@ -18,13 +18,12 @@ use Rattle.std.specs.Option.{ok_or}
 use Rattle.lq_cli.specs.declared.answer.Answer.TheVariants.{Outside}
 use Rattle.lq_cli.specs.declared.ready.Stop.TheVariants.{Told}
 use Rattle.lq_cli.specs.Ready.{OnTold, TellsText}
-use Rattle.lq_cli.specs.Answer.{quantity_text, allowed_of, quantity_numbered}
 use Rattle.lq_tree.specs.declared.program.Program.{Program}
-use Rattle.lq_names.specs.Counts.{Count, counts, first_passed, most_fields, program_sizes, answer}
+use Rattle.lq_names.specs.Counts.{counts, first_passed, answer}
 use Rattle.lq_cli.specs.declared.slice.Slice.{Slice}
 use Rattle.lq_cli.specs.Parentheses.{all_follow}
 use Rattle.lq_cli.specs.Source.{program}
-use Rattle.lq_cli.specs.Text.{Shaped, HasTree, Reads, TextAnswers, count_name, lexical, brackets, stretch, annotation, syntax, count, outside}
+use Rattle.lq_cli.specs.Text.{Shaped, HasTree, Reads, TextAnswers, lexical, brackets, stretch, annotation, syntax, count, outside}
 
 module _ (text : List ℕ) (at : ℕ) (p : Place) (in_line : p.line ≡ line_of (take at text)) (in_column : p.col ≡ column_of (take at text)) where
   place_is : place_at text at ≡ p
@@ -63,9 +62,9 @@ syntax_within text tokens at all fault = within fault.rest fault.split fault.pla
         let lies = behind_front text tokens fault.front token rest all split in
         omega (arith, is, lies.0, lies.1)
 
--- what passes a limit of the shape
+-- what passes a limit
 abbrev Passed : List ℕ → Limit → Type 0
-Passed text l = TextAnswers text 7 (limit (quantity_text (quantity_numbered l.which)) l.found (allowed_of (quantity_numbered l.which)))
+Passed text l = TextAnswers text 7 (limit l)
 
 never : false ≡ true → ⊥
 never e = absurd cc
@@ -88,47 +87,6 @@ shape_passed {T = T} text tokens r l lexed ok many long is =
     (cases_lt 512 (longest_stretch (texts_of text tokens))))
     (cases_lt 64 (most_open (texts_of text tokens)))
 
--- either branch
-either : {A : Type 0} (b : Bool) (x y z : A) → (if b then x else y) ≡ z → (x ≡ z) ⊎ (y ≡ z)
-either true x y z is = inl is
-either false x y z is = inr is
-
--- what is told of a limit that is passed
-abbrev Tells : Limit → Type 0
-Tells l = limit (count_name l.which) l.found l.allowed ≡ limit (quantity_text (quantity_numbered l.which)) l.found (allowed_of (quantity_numbered l.which))
-
-abbrev limit_of : Limit → Option Limit → Limit
-limit_of other None = other
-limit_of other (Some l) = l
-
-first_tells : (l : Limit) (c : Count) (rest : List Count) → Tells (record { which = c.which; found = c.found; allowed = c.allowed })
-    → (first_passed rest ≡ Some l → Tells l) → first_passed (c ∷ rest) ≡ Some l → Tells l
-first_tells l c rest told more is =
-    ⊎_elim
-    (λ e. subst Tells (ap (limit_of l) e) told)
-    more
-    (either (nat_lt c.allowed c.found) (Some (record { which = c.which; found = c.found; allowed = c.allowed })) (first_passed rest) (Some l) is)
-
-none_tells : (l : Limit) → first_passed [] ≡ Some l → Tells l
-none_tells l is = absurd cc
-
--- a count by its place in the table, what was found and what is allowed
-abbrev number : (which found allowed : ℕ) → Count
-number which found allowed = record { which = which; found = found; allowed = allowed }
-
-six_tell : (a b c d e f : ℕ) (l : Limit)
-    → first_passed (number 8 a 256 ∷ number 11 b 64 ∷ number 12 c 16 ∷ number 13 d 32 ∷ number 14 e 16 ∷ number 18 f 64 ∷ []) ≡ Some l → Tells l
-six_tell a b c d e f l =
-    first_tells l (number 8 a 256) (number 11 b 64 ∷ number 12 c 16 ∷ number 13 d 32 ∷ number 14 e 16 ∷ number 18 f 64 ∷ []) refl
-    (first_tells l (number 11 b 64) (number 12 c 16 ∷ number 13 d 32 ∷ number 14 e 16 ∷ number 18 f 64 ∷ []) refl
-    (first_tells l (number 12 c 16) (number 13 d 32 ∷ number 14 e 16 ∷ number 18 f 64 ∷ []) refl
-    (first_tells l (number 13 d 32) (number 14 e 16 ∷ number 18 f 64 ∷ []) refl
-    (first_tells l (number 14 e 16) (number 18 f 64 ∷ []) refl
-    (first_tells l (number 18 f 64) [] refl (none_tells l))))))
-
-counts_tell : (tree : Program) (l : Limit) → first_passed (counts tree) ≡ Some l → Tells l
-counts_tell tree l = six_tell (length tree.funcs) (length tree.structs) (most_fields tree.structs) (program_sizes tree).locals (program_sizes tree).branches (program_sizes tree).arms l
-
 -- a test that answers a limit has found one
 passed_of : (o : Option Limit) (r : Result (Unit {0}) Limit) (l : Limit) → r ≡ answer o → r ≡ Err l → o ≡ Some l
 passed_of None r l due is = absurd (cc (sym due ∙ is))
@@ -136,9 +94,7 @@ passed_of (Some m) r l due is = ap (λ (q : Result (Unit {0}) Limit). Some (err_
 
 pub count_told : (text : List ℕ) (tree : Program) (r : Result (Unit {0}) Limit) (l : Limit) → HasTree text tree
     → r ≡ answer (first_passed (counts tree)) → r ≡ Err l → Passed text l
-count_told text tree r l has due is =
-    let passed = passed_of (first_passed (counts tree)) r l due is in
-    subst (λ (bytes : List ℕ). TextAnswers text 7 bytes) (counts_tell tree l passed) (count tree l has passed)
+count_told text tree r l has due is = count tree l has (passed_of (first_passed (counts tree)) r l due is)
 
 -- a text that reads and yet is outside the slice
 module _ (text : List ℕ) (tree : Program) (reads : Reads text tree) where

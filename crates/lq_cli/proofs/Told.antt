@@ -1,10 +1,8 @@
 -- How the end of a run is told.
-use Rattle.std.proofs.Common.{◌≡◌, ◌≢◌, ◌⊎◌, inl, inr, ⊎_elim, ℕ, zero, suc, List, ◌++◌, Option, None, Some, refl, sym, ◌∙◌, subst}
+use Rattle.std.proofs.Common.{◌≡◌, ◌⊎◌, inl, inr, ⊎_elim, ℕ, List, ◌++◌, Option, refl, sym, ◌∙◌, subst}
 use Rattle.std.specs.Prelude.{codes}
-use Rattle.lq_tree.specs.declared.place.Place.{Place}
 use Rattle.lq_shelf.specs.Sink.{Appends, AppendsPrefix}
 use Rattle.lq_shelf.proofs.Pieces.{Appends-append, AppendsPrefix-append, AppendsPrefix-more, AppendsPrefix-all}
-use Rattle.lq_meaning.specs.World.{World}
 use Rattle.lq_meaning.specs.Ending.{Ending, Done, Outcome}
 use Rattle.lq_cli.specs.Lines.{line, number_lines, trap}
 use Rattle.lq_shelf.specs.Shelf.{Holding}

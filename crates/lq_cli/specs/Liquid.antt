@@ -3,6 +3,8 @@
 use Rattle.std.specs.Prelude.{◌≡◌, ℕ, ◌+◌, ◌<◌, ◌≤◌, pos, List, [], ◌++◌, length, map, Option, Some, codes, decimal}
 use Rattle.lq_tree.specs.declared.place.Place.{Place}
 use Rattle.lq_tree.specs.declared.program.Program.{Program}
+use Rattle.lq_tree.specs.declared.limit.Quantity.TheVariants.{SourceBytes, PickBytes as BytesOfPicks, PickNumbers}
+use Rattle.lq_tree.specs.Limit.{passed}
 use Rattle.lq_tree.specs.Place.{place_text}
 use Rattle.lq_text.specs.Numbers.{IsNumbersFile, IsFirstBadLine}
 use Rattle.lq_shelf.specs.Faults.{Rose}
@@ -12,19 +14,10 @@ use Rattle.lq_meaning.specs.Ending.{Trap, Done, Trapped, Spent, Outcome}
 use Rattle.lq_meaning.specs.Meaning.{sequential}
 use Rattle.lq_cli.specs.declared.slice.Slice.{Slice}
 use Rattle.lq_cli.specs.Command.{Command, Spells}
-use Rattle.lq_cli.specs.Lines.{line, number_lines, trap, read_fault, limit}
+use Rattle.lq_cli.specs.Lines.{most, line, number_lines, trap, read_fault, limit}
 use Rattle.lq_cli.specs.Literal.{literal_faults, first_of, IsAccepted}
 use Rattle.lq_cli.specs.Run.{run_slice}
 use Rattle.lq_cli.specs.Text.{Reads, IsOfSlice, TextAnswers}
-
-abbrev pub most_source_bytes : ℕ
-most_source_bytes = 262144
-
-abbrev pub most_pick_bytes : ℕ
-most_pick_bytes = 33554432
-
-abbrev pub most_pick_numbers : ℕ
-most_pick_numbers = 1048576
 
 -- how an outcome is told: the numbers that were printed, and the line of the end
 pub data Ends (o : Outcome) : ℕ → List ℕ → Type 0 where
@@ -55,20 +48,20 @@ module _ (held : List ℕ → Holding) where
   -- a command and the bytes of its source, which are within their limit
   pub record Sourced (words : List (List ℕ)) (c : Command) (text : List ℕ) : Type 0 where
     pub command : Spells words c
-    pub fetched : Fetched c.source most_source_bytes text
-    pub within : length text ≤ most_source_bytes
+    pub fetched : Fetched c.source (most SourceBytes) text
+    pub within : length text ≤ most SourceBytes
 
   -- the bytes of its picks, which are within their limit
   pub record PickBytes (c : Command) (bytes : List ℕ) : Type 0 where
-    pub fetched : Fetched c.picks most_pick_bytes bytes
-    pub within : length bytes ≤ most_pick_bytes
+    pub fetched : Fetched c.picks (most BytesOfPicks) bytes
+    pub within : length bytes ≤ most BytesOfPicks
 
   -- its picks, which are within their limit
   pub record Picked (c : Command) (picks : List ℕ) : Type 0 where
     pub bytes : List ℕ
     pub fetched : PickBytes c bytes
     pub numbers : IsNumbersFile (pos 0) bytes (map pos picks)
-    pub within : length picks ≤ most_pick_numbers
+    pub within : length picks ≤ most PickNumbers
 
 -- a fetch of this name failed in the call: the count of faults rose, and this is the last name that failed
 abbrev pub Lost : (before after : ℕ) → (last : List ℕ) → (name : List ℕ) → Type 0
@@ -79,12 +72,12 @@ module _ (held : List ℕ → Holding) (Failed : List ℕ → Type 0) (means : M
   -- the answers where the words are a command and its source is of the slice
   pub data SliceAnswers (c : Command) (tree : Program) (s : Slice) : ℕ → List ℕ → Type 0 where
     picks_fault : Failed c.picks → SliceAnswers c tree s 9 (read_fault c.picks)
-    pick_bytes : (bytes : List ℕ) → Fetched held c.picks most_pick_bytes bytes → most_pick_bytes < length bytes →
-        SliceAnswers c tree s 7 (limit (codes "pick bytes") (length bytes) most_pick_bytes)
+    pick_bytes : (bytes : List ℕ) → Fetched held c.picks (most BytesOfPicks) bytes → most BytesOfPicks < length bytes →
+        SliceAnswers c tree s 7 (limit (passed BytesOfPicks (length bytes)))
     bad_pick_line : (bytes : List ℕ) (number : ℕ) → PickBytes held c bytes → IsFirstBadLine (pos 0) bytes number →
         SliceAnswers c tree s 6 (line (codes "bad pick line " ++ decimal number))
-    pick_numbers : (bytes picks : List ℕ) → PickBytes held c bytes → IsNumbersFile (pos 0) bytes (map pos picks) → most_pick_numbers < length picks →
-        SliceAnswers c tree s 7 (limit (codes "pick numbers") (length picks) most_pick_numbers)
+    pick_numbers : (bytes picks : List ℕ) → PickBytes held c bytes → IsNumbersFile (pos 0) bytes (map pos picks) → most PickNumbers < length picks →
+        SliceAnswers c tree s 7 (limit (passed PickNumbers (length picks)))
     refused : (picks : List ℕ) (at : Place) → Picked held c picks → first_of (literal_faults s) ≡ Some at →
         SliceAnswers c tree s 2 (line (codes "refused literal at " ++ place_text at))
     ran : (picks : List ℕ) {status : ℕ} {bytes : List ℕ} → Picked held c picks → IsAccepted s → Ends (means tree s c picks) status bytes →
@@ -94,8 +87,8 @@ module _ (held : List ℕ → Holding) (Failed : List ℕ → Type 0) (means : M
   pub data Answers (words : List (List ℕ)) : ℕ → List ℕ → Type 0 where
     bad_words : ((c : Command) → ¬ Spells words c) → Answers words 12 (line (codes "bad words"))
     source_fault : (c : Command) → Spells words c → Failed c.source → Answers words 9 (read_fault c.source)
-    source_bytes : (c : Command) (text : List ℕ) → Spells words c → Fetched held c.source most_source_bytes text → most_source_bytes < length text →
-        Answers words 7 (limit (codes "source bytes") (length text) most_source_bytes)
+    source_bytes : (c : Command) (text : List ℕ) → Spells words c → Fetched held c.source (most SourceBytes) text → most SourceBytes < length text →
+        Answers words 7 (limit (passed SourceBytes (length text)))
     without_slice : (c : Command) (text : List ℕ) {status : ℕ} {bytes : List ℕ} → Sourced held words c text → TextAnswers text status bytes → Answers words status bytes
     with_slice : (c : Command) (text : List ℕ) (tree : Program) (name : List ℕ) (s : Slice) {status : ℕ} {bytes : List ℕ} →
         Sourced held words c text → Reads text tree → IsOfSlice text tree name s → SliceAnswers c tree s status bytes → Answers words status bytes

@@ -2,7 +2,7 @@
 use Rattle.std.specs.Prelude.{◌≡◌, ℕ, ◌<◌, List, length, ⊤}
 use Rattle.lq_tree.specs.declared.program.Program.{Program}
 use Rattle.lq_shelf.specs.Shelf.{Holding}
-use Rattle.lq_cli.specs.declared.answer.Quantity.{Quantity}
+use Rattle.lq_tree.specs.declared.limit.Quantity.{Quantity}
 use Rattle.lq_cli.specs.declared.answer.Answer.{Answer}
 use Rattle.lq_cli.specs.declared.answer.Answer.TheVariants.{ReadFault, Limit, BadPickLine}
 use Rattle.lq_text.specs.declared.numbers.NumbersFault.{NumbersFault}
@@ -12,7 +12,9 @@ use Rattle.lq_cli.specs.declared.ready.Stop.{Stop}
 use Rattle.lq_cli.specs.declared.ready.Stop.TheVariants.{Told, NoMemory}
 use Rattle.lq_cli.specs.declared.ready.Ready.{Ready}
 use Rattle.lq_tree.specs.declared.limit.Limit.{Limit as PassedLimit}
-use Rattle.lq_cli.specs.Answer.{allowed_of, quantity_numbered, status_of, line_of}
+use Rattle.lq_tree.specs.Limit.{passed}
+use Rattle.lq_cli.specs.Answer.{status_of, line_of}
+use Rattle.lq_cli.specs.Lines.{most}
 use Rattle.lq_cli.specs.Command.{Command}
 use Rattle.lq_cli.specs.Liquid.{Means, Fetched, Sourced, Picked, SliceAnswers, Answers}
 use Rattle.lq_cli.specs.Literal.{IsAccepted}
@@ -27,7 +29,7 @@ stop_of_picks NoNumbersMemory = NoMemory
 
 -- how a limit that is passed stops a command
 abbrev pub stop_of_limit : PassedLimit → Stop
-stop_of_limit l = Told (Limit (quantity_numbered l.which) l.found)
+stop_of_limit l = Told (Limit l)
 
 -- what a stop tells, where it tells an answer
 abbrev pub OnTold : Stop → (Answer → Type 0) → Type 0
@@ -42,8 +44,8 @@ OnOther _ P = P
 -- why a fetch of this name stops: it failed, or gave more than is allowed
 abbrev pub Fetches : (held : List ℕ → Holding) → (Failed : List ℕ → Type 0) → (name : List ℕ) → Quantity → Answer → Type 0
 Fetches held Failed name quantity (ReadFault other) = (other.now ≡ name) × Failed name
-Fetches held Failed name quantity (Limit other found) =
-    (other ≡ quantity) × (bytes : List ℕ) × (found ≡ length bytes) × Fetched held name (allowed_of quantity) bytes × (allowed_of quantity < length bytes)
+Fetches held Failed name quantity (Limit l) =
+    (bytes : List ℕ) × (l ≡ passed quantity (length bytes)) × Fetched held name (most quantity) bytes × (most quantity < length bytes)
 Fetches held Failed name quantity _ = ⊥
 
 -- an answer to a text that is no source of the slice

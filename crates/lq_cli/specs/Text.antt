@@ -1,8 +1,10 @@
 -- The trees that sources have, which sources are of the slice, and the answers to those that are not
 -- (docs/COMMANDS.md, "Replay today").
-use Rattle.std.specs.Prelude.{◌≡◌, ℕ, ◌<◌, ◌≤◌, ◌==◌, if◌then◌else◌, None, Some, List, ◌++◌, codes, decimal}
+use Rattle.std.specs.Prelude.{◌≡◌, ℕ, ◌<◌, ◌≤◌, None, Some, List, ◌++◌, codes, decimal}
 use Rattle.lq_tree.specs.declared.program.Program.{Program}
 use Rattle.lq_tree.specs.declared.limit.Limit.{Limit}
+use Rattle.lq_tree.specs.declared.limit.Quantity.TheVariants.{Brackets, Stretch}
+use Rattle.lq_tree.specs.Limit.{passed}
 use Rattle.lq_tree.specs.Place.{place_text}
 use Rattle.lq_lexer.specs.declared.token.Token.{Token}
 use Rattle.lq_lexer.specs.Tokens.{Tokens}
@@ -14,7 +16,7 @@ use Rattle.lq_names.specs.declared.fault.Fault.{Fault}
 use Rattle.lq_names.specs.Counts.{counts, first_passed}
 use Rattle.lq_names.specs.Broken.{IsBroken, IsLeastBroken}
 use Rattle.lq_cli.specs.declared.slice.Slice.{Slice}
-use Rattle.lq_cli.specs.Lines.{line, limit}
+use Rattle.lq_cli.specs.Lines.{most, line, limit}
 use Rattle.lq_cli.specs.Source.{program}
 use Rattle.lq_cli.specs.Parentheses.{HasSliceParentheses}
 
@@ -48,29 +50,19 @@ pub record IsOfSlice (text : List ℕ) (tree : Program) (name : List ℕ) (s : S
   pub is : tree ≡ program name s
   pub parentheses : HasSliceParentheses text
 
--- the name of a count by its number in the table of limits
-abbrev pub count_name : ℕ → List ℕ
-count_name which =
-    if which == 8 then codes "functions"
-    else if which == 11 then codes "structs"
-    else if which == 12 then codes "fields"
-    else if which == 13 then codes "locals"
-    else if which == 14 then codes "branches"
-    else codes "arms"
-
 -- the answers to a text that is no source of the slice
 pub data TextAnswers (text : List ℕ) : ℕ → List ℕ → Type 0 where
   lexical : (at : ℕ) → IsFirstFault text at → TextAnswers text 3 (line (codes "lexical fault at " ++ place_text (place_at text at)))
-  brackets : (tokens : List Token) → Tokens text tokens → 64 < most_open (texts_of text tokens) →
-      TextAnswers text 7 (limit (codes "brackets") (most_open (texts_of text tokens)) 64)
-  stretch : (tokens : List Token) → Tokens text tokens → most_open (texts_of text tokens) ≤ 64 → 512 < longest_stretch (texts_of text tokens) →
-      TextAnswers text 7 (limit (codes "stretch") (longest_stretch (texts_of text tokens)) 512)
+  brackets : (tokens : List Token) → Tokens text tokens → most Brackets < most_open (texts_of text tokens) →
+      TextAnswers text 7 (limit (passed Brackets (most_open (texts_of text tokens))))
+  stretch : (tokens : List Token) → Tokens text tokens → most_open (texts_of text tokens) ≤ most Brackets → most Stretch < longest_stretch (texts_of text tokens) →
+      TextAnswers text 7 (limit (passed Stretch (longest_stretch (texts_of text tokens))))
   annotation : (tokens : List Token) (at : ℕ) → Shaped text tokens → IsFirstAnnotation tokens at →
       TextAnswers text 4 (line (codes "annotation at " ++ place_text (place_at text at)))
   syntax : (tokens : List Token) (at : ℕ) → Shaped text tokens → HasNoAnnotation tokens → IsFaultPlace text tokens at →
       TextAnswers text 3 (line (codes "syntax fault near " ++ place_text (place_at text at)))
   count : (tree : Program) (l : Limit) → HasTree text tree → first_passed (counts tree) ≡ Some l →
-      TextAnswers text 7 (limit (count_name l.which) l.found l.allowed)
+      TextAnswers text 7 (limit l)
   names : (tree : Program) (fault : Fault) → HasTree text tree → IsCounted tree → IsLeastBroken tree fault →
       TextAnswers text 4 (line (codes "names N" ++ decimal fault.rule ++ codes " at " ++ place_text fault.at))
   outside : (tree : Program) → Reads text tree → ((name : List ℕ) (s : Slice) → ¬ IsOfSlice text tree name s) →

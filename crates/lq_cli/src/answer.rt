@@ -4,7 +4,7 @@ ghost use Rattle.lq_shelf.specs.Sink.{Appends, AppendsPrefix};
 ghost use Rattle.lq_cli.specs.Answer.{IsLost, lost_of};
 
 use lq_shelf::{Put, Sink};
-use lq_tree::{Place, TrapKind};
+use lq_tree::{Limit, Place, Quantity, TrapKind};
 use std::alloc::Global;
 use std::fmt;
 
@@ -13,89 +13,6 @@ pub const SINK_FAULT: u8 = 10;
 /// The status where memory ran out.
 pub const NO_MEMORY: u8 = 11;
 
-/// A quantity that has a limit (docs/COMMANDS.md, "Limits").
-#[derive(Clone, Copy, Debug, PartialEq, Eq)]
-pub enum Quantity {
-    SourceBytes,
-    PickBytes,
-    PickNumbers,
-    /// Brackets that are open at once.
-    Brackets,
-    /// Tokens in a row that are none of `;`, `{` and `}`.
-    Stretch,
-    Functions,
-    Structs,
-    /// Fields of one struct.
-    Fields,
-    /// Locals of one function that are in scope at once, its parameters among them.
-    Locals,
-    /// Branches of one `cobegin`.
-    Branches,
-    /// Conditions of one `if`.
-    Arms,
-}
-
-impl Quantity {
-    ghost use Rattle.std.specs.Prelude.{◌≡◌};
-    ghost use Rattle.lq_cli.specs.Answer.{allowed_of, quantity_numbered};
-
-    /// The quantity with this number in the table of limits, of those that are counted in a source.
-    pub fn numbered(which: u32) -> Quantity
-        ensures { result ≡ quantity_numbered which }
-    {
-        match which {
-            6 => Quantity::Brackets,
-            7 => Quantity::Stretch,
-            8 => Quantity::Functions,
-            11 => Quantity::Structs,
-            12 => Quantity::Fields,
-            13 => Quantity::Locals,
-            14 => Quantity::Branches,
-            _ => Quantity::Arms,
-        }
-    }
-
-    /// The largest count that is allowed.
-    pub fn allowed(self) -> usize
-        ensures { result ≡ allowed_of self }
-    {
-        match self {
-            Quantity::SourceBytes => 262_144,
-            Quantity::PickBytes => 33_554_432,
-            Quantity::PickNumbers => 1_048_576,
-            Quantity::Brackets => 64,
-            Quantity::Stretch => 512,
-            Quantity::Functions => 256,
-            Quantity::Structs | Quantity::Arms => 64,
-            Quantity::Fields | Quantity::Branches => 16,
-            Quantity::Locals => 32,
-        }
-    }
-}
-
-impl fmt::Display for Quantity {
-    ghost use Rattle.std.specs.Prelude.{Some};
-    ghost use Rattle.lq_cli.specs.Answer.{quantity_text};
-
-    ghost output = { λ quantity. Some (quantity_text quantity) };
-
-    fn fmt<W: fmt::Write>(&self, f: &mut fmt::Formatter<W>) -> fmt::Result {
-        match self {
-            Quantity::SourceBytes => write!(f, "source bytes"),
-            Quantity::PickBytes => write!(f, "pick bytes"),
-            Quantity::PickNumbers => write!(f, "pick numbers"),
-            Quantity::Brackets => write!(f, "brackets"),
-            Quantity::Stretch => write!(f, "stretch"),
-            Quantity::Functions => write!(f, "functions"),
-            Quantity::Structs => write!(f, "structs"),
-            Quantity::Fields => write!(f, "fields"),
-            Quantity::Locals => write!(f, "locals"),
-            Quantity::Branches => write!(f, "branches"),
-            Quantity::Arms => write!(f, "arms"),
-        }
-    }
-}
-
 /// An answer that a line tells (docs/COMMANDS.md, "Statuses").
 #[derive(Clone, Copy, Debug, PartialEq, Eq)]
 pub enum Answer<'a> {
@@ -103,7 +20,7 @@ pub enum Answer<'a> {
     /// A file can't be read.
     ReadFault(&'a str),
     /// More of a quantity was found than is allowed.
-    Limit(Quantity, usize),
+    Limit(Limit),
     /// Where the source has no tokens.
     Lexical(Place),
     /// The first word of an annotation.
@@ -134,8 +51,12 @@ impl fmt::Display for Answer<'_> {
         match self {
             Answer::BadWords => writeln!(f, "bad words"),
             Answer::ReadFault(name) => writeln!(f, "read fault {name}"),
-            Answer::Limit(quantity, found) => {
-                writeln!(f, "limit {quantity} {found} {}", quantity.allowed())
+            Answer::Limit(limit) => {
+                write!(f, "limit ")?;
+                if let Some(quantity) = Quantity::numbered(limit.which) {
+                    write!(f, "{quantity}")?;
+                }
+                writeln!(f, " {} {}", limit.found, limit.allowed)
             }
             Answer::Lexical(at) => writeln!(f, "lexical fault at {at}"),
             Answer::Annotation(at) => writeln!(f, "annotation at {at}"),
@@ -161,7 +82,7 @@ impl Answer<'_> {
         match self {
             Answer::BadWords => 12,
             Answer::ReadFault(_) => 9,
-            Answer::Limit(..) => 7,
+            Answer::Limit(_) => 7,
             Answer::Lexical(_) | Answer::Syntax(_) | Answer::Outside => 3,
             Answer::Annotation(_) | Answer::Names(..) => 4,
             Answer::BadPickLine(_) => 6,

@@ -1,18 +1,18 @@
 ghost use Rattle.std.specs.Prelude.{◌≡◌, ℕ, List, ◌≤◌, ⊤, map, unsigned_abs, length, string_bytes, IfOk, MatchResult};
 ghost use Rattle.lq_shelf.specs.Shelf.{Holding};
-ghost use Rattle.lq_cli.specs.Answer.{allowed_of};
 ghost use Rattle.lq_cli.specs.Command.{Command};
+ghost use Rattle.lq_cli.specs.Lines.{most};
 ghost use Rattle.lq_cli.specs.Liquid.{Fetched, Picked, Lost};
 ghost use Rattle.lq_cli.specs.Ready.{OnTold, OnOther, Fetches, PicksStop, Stops, IsReady};
 
-use crate::answer::{Answer, Quantity};
+use crate::answer::Answer;
 use crate::command::read_command;
 use crate::literal::literal_fault;
 use crate::slice::Slice;
 use crate::text::read_slice;
 use lq_shelf::{Fetch, Shelf};
 use lq_text::{NumbersFault, read_numbers_from};
-use lq_tree::Limit;
+use lq_tree::{Limit, Quantity};
 use std::alloc::{AllocError, Global};
 
 /// What a run needs.
@@ -65,8 +65,7 @@ impl From<Limit> for Stop<'_> {
     ghost from_gives = { λ limit stop. stop ≡ stop_of_limit limit };
 
     fn from(limit: Limit) -> Self {
-        let quantity = Quantity::numbered(limit.which);
-        Stop::Told(Answer::Limit(quantity, limit.found as usize))
+        Stop::Told(Answer::Limit(limit))
     }
 }
 
@@ -76,18 +75,18 @@ fn fetch<'a, H: Shelf>(
     name: &'a str,
     quantity: Quantity,
 ) -> Result<Vec<u8>, Stop<'a>>
-    ensures fetched { IfOk result (λ bytes. Fetched (H.holding shelf.old) name.now (allowed_of quantity) bytes.items) }
-    ensures within { IfOk result (λ bytes. length bytes.items ≤ allowed_of quantity) }
+    ensures fetched { IfOk result (λ bytes. Fetched (H.holding shelf.old) name.now (most quantity) bytes.items) }
+    ensures within { IfOk result (λ bytes. length bytes.items ≤ most quantity) }
     ensures told { MatchResult result (λ _. ⊤) (λ stop. OnTold stop
         (Fetches (H.holding shelf.old) (Lost (H.faults shelf.old) (H.faults shelf.new) (H.failed_name shelf.new)) name.now quantity)) }
     ensures count { MatchResult result (λ _. H.faults shelf.new ≡ H.faults shelf.old) (λ stop. OnOther stop (H.faults shelf.new ≡ H.faults shelf.old)) }
     ensures unchanged { (other : List ℕ) → H.holding shelf.new other ≡ H.holding shelf.old other }
     ensures never_falls { H.faults shelf.old ≤ H.faults shelf.new }
 {
-    let allowed = quantity.allowed();
+    let allowed = quantity.allowed() as usize;
     match shelf.fetch(name, allowed + 1) {
         Ok(bytes) if bytes.len() <= allowed => Ok(bytes),
-        Ok(bytes) => Err(Stop::Told(Answer::Limit(quantity, bytes.len()))),
+        Ok(bytes) => Err(Stop::from(quantity.passed(bytes.len() as u64))),
         Err(Fetch::Failed) => Err(Stop::Told(Answer::ReadFault(name))),
         Err(Fetch::NoMemory) => Err(Stop::NoMemory),
     }
@@ -120,8 +119,9 @@ fn fetch_picks<'a, H: Shelf>(
 {
     let bytes = fetch(shelf, name, Quantity::PickBytes)?;
     let numbers = read_numbers_from(alloc, &bytes, 0)?;
-    if numbers.len() > Quantity::PickNumbers.allowed() {
-        return Err(Stop::Told(Answer::Limit(Quantity::PickNumbers, numbers.len())));
+    if numbers.len() > Quantity::PickNumbers.allowed() as usize {
+        let limit = Quantity::PickNumbers.passed(numbers.len() as u64);
+        return Err(Stop::Told(Answer::Limit(limit)));
     }
     Ok(picks_of(alloc, &numbers)?)
 }

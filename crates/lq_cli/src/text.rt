@@ -1,6 +1,7 @@
 ghost use Rattle.std.specs.Prelude.{◌≡◌, ◌≤◌, ⊤, length, IfOk, MatchResult};
 ghost use Rattle.lq_lexer.specs.Tokens.{Tokens};
-ghost use Rattle.lq_cli.specs.Liquid.{most_source_bytes};
+ghost use Rattle.lq_tree.specs.declared.limit.Quantity.TheVariants.{SourceBytes};
+ghost use Rattle.lq_cli.specs.Lines.{most};
 ghost use Rattle.lq_cli.specs.Ready.{HasSlice, OnTold, TellsText};
 ghost use Rattle.lq_cli.specs.Text.{Shaped, HasTree, IsCounted, IsNamed, Reads};
 
@@ -18,7 +19,7 @@ use std::alloc::Global;
 
 // The tokens of a text.
 fn tokens_of<'a>(alloc: Global, text: &[u8]) -> Result<Vec<Token>, Stop<'a>>
-    requires { length text.now ≤ most_source_bytes }
+    requires { length text.now ≤ most SourceBytes }
     ensures tokens { IfOk result (λ tokens. Tokens text.now tokens.items) }
     ensures told { MatchResult result (λ _. ⊤) (λ stop. OnTold stop (TellsText text.now)) }
 {
@@ -40,7 +41,7 @@ fn test_shape<'a>(text: &[u8], tokens: &[Token]) -> Result<(), Stop<'a>>
 
 // The tree that the tokens of a text spell.
 fn tree_of<'a>(alloc: Global, text: &[u8], tokens: &[Token]) -> Result<Program, Stop<'a>>
-    requires short { length text.now ≤ most_source_bytes }
+    requires short { length text.now ≤ most SourceBytes }
     requires shaped { Shaped text.now tokens.now }
     ensures tree { IfOk result (HasTree text.now) }
     ensures told { MatchResult result (λ _. ⊤) (λ stop. OnTold stop (TellsText text.now)) }
@@ -92,7 +93,7 @@ fn test_tree<'a>(alloc: Global, text: &[u8], tree: &Program) -> Result<(), Stop<
 
 // The tokens of a text, where they keep the limits of their shape, or why there are none.
 fn read_tokens<'a>(alloc: Global, text: &[u8]) -> Result<Vec<Token>, Stop<'a>>
-    requires { length text.now ≤ most_source_bytes }
+    requires { length text.now ≤ most SourceBytes }
     ensures shaped { IfOk result (λ tokens. Shaped text.now tokens.items) }
     ensures told { MatchResult result (λ _. ⊤) (λ stop. OnTold stop (TellsText text.now)) }
 {
@@ -104,7 +105,7 @@ fn read_tokens<'a>(alloc: Global, text: &[u8]) -> Result<Vec<Token>, Stop<'a>>
 // The tree that the tokens of a text spell, where it keeps the limits of counts and the name rules, or why there is
 // none.
 fn read_tree<'a>(alloc: Global, text: &[u8], tokens: &[Token]) -> Result<Program, Stop<'a>>
-    requires short { length text.now ≤ most_source_bytes }
+    requires short { length text.now ≤ most SourceBytes }
     requires shaped { Shaped text.now tokens.now }
     ensures tree { IfOk result (Reads text.now) }
     ensures told { MatchResult result (λ _. ⊤) (λ stop. OnTold stop (TellsText text.now)) }
@@ -143,7 +144,7 @@ fn slice_within<'a>(
 /// The slice whose source a text is (docs/LANGUAGE.md, "The slice"), or why it is none: it has no tree, its tree
 /// breaks a limit of counts or a name rule, or it is outside the slice.
 pub fn read_slice<'a>(alloc: Global, text: &[u8]) -> Result<Slice, Stop<'a>>
-    requires { length text.now ≤ most_source_bytes }
+    requires { length text.now ≤ most SourceBytes }
     ensures slice { IfOk result (HasSlice text.now) }
     ensures told { MatchResult result (λ _. ⊤) (λ stop. OnTold stop (TellsText text.now)) }
 {

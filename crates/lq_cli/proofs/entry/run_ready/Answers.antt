@@ -1,11 +1,10 @@
-use Rattle.std.proofs.Common.{◌∙◌, [], inr, ap, sym, subst}
+use Rattle.std.proofs.Common.{◌∙◌, inr, ap, sym, subst}
 use Rattle.lq_shelf.specs.Sink.{Appends, AppendsPrefix}
 use Rattle.lq_meaning.specs.Ending.{Outcome}
 use Rattle.std.specs.Prelude.{codes}
-use Rattle.lq_meaning.specs.Entry.{start}
 use Rattle.lq_cli.specs.Lines.{line, number_lines, trap}
 use Rattle.lq_cli.specs.Liquid.{trapped, spent}
-use Rattle.lq_cli.specs.Run.{task_of, run_slice}
+use Rattle.lq_cli.specs.Run.{run_slice}
 use Rattle.lq_cli.proofs.Told.{has_end, told_done, begun_done, told_line, begun_line, begun_numbers, same_outcome}
 use Rattle.lq_cli.proofs.Law.{slice_settles}
 use Rattle.lq_cli.proofs.entry.run_ready.Goals as goal
