@@ -113,11 +113,11 @@ module _ {fuel more : ℕ} {K : (X : Type 0) → Run X → Run X → Type 0} (k 
             k.goes (k.goes (find_kept at locals into) target_of_kept) (λ t. k.goes (eval_kept at locals e) (λ word.
             k.goes (k.due at (StoreWord t.pointer t.index t.field word)) (λ _. k.gives (GoesOn locals))))
         exec_kept at (Call name args) locals = k.goes (k.goes (eval_list_kept at locals args) (calls at name)) (λ _. k.gives (GoesOn locals))
-        exec_kept at (If' n arms other) locals = exec_arms_kept at arms (exec_held_kept other) locals
+        exec_kept at (If' n arms other) locals = exec_arms_kept at arms (λ locals. scoped_kept locals (exec_held_kept other locals)) locals
         exec_kept at (While' e q body) locals = looped_kept at (Some e) (λ locals. scoped_kept locals (exec_row_kept body locals)) locals
         exec_kept at (For' first e third q body) locals =
             scoped_kept locals (then_do_kept k (exec_held_kept first locals)
-            (looped_kept at e (λ locals. then_do_kept k (scoped_kept locals (exec_row_kept body locals)) (exec_held_kept third))))
+            (looped_kept at e (λ locals. then_do_kept k (scoped_kept locals (exec_row_kept body locals)) (λ locals. scoped_kept locals (exec_held_kept third locals)))))
         exec_kept at (Print e) locals = k.goes (eval_kept at locals e) (λ number. k.goes (k.due at (PrintNumber number)) (λ _. k.gives (GoesOn locals)))
         exec_kept at (Return None) locals = k.gives (Returns (pos 0))
         exec_kept at (Return (Some e)) locals = k.goes (eval_kept at locals e) (λ word. k.gives (Returns word))
@@ -154,7 +154,7 @@ module _ {fuel more : ℕ} {K : (X : Type 0) → Run X → Run X → Type 0} (k 
 
       pub in_function_kept : (f : Option Func) (words : List ℤ) → K ℤ (in_function here f words) (in_function there f words)
       in_function_kept None words = k.stops Unruled
-      in_function_kept (Some f) words = k.goes (exec_all_kept f.body (bound f.params words)) (returned_kept k)
+      in_function_kept (Some f) words = k.goes (exec_all_kept f.body (bound f.params words [])) (returned_kept k)
 
   module _ (below : fuel ≤ more) where
     pub called_kept : (deep : ℕ) (at : Place) (name : List ℕ) (words : List ℤ) → K ℤ (called p fuel deep at name words) (called p more deep at name words)

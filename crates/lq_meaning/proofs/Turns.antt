@@ -85,8 +85,11 @@ module _ (c : Context) (calls : CallsGrow c) where
   body_grows : {n : _} (body : Row_of-Stmt n) → StatementGrows c.fuel (λ locals. scoped locals (exec_row c body locals))
   body_grows body locals = scoped_kept (growing c.fuel) c.program {body = exec_row c body locals} {body' = exec_row c body locals} locals (exec_row_grows body locals)
 
-  then_third_grows : {n : _} (body : Row_of-Stmt n) (third : Held-StmtKind-If-1) → StatementGrows c.fuel (λ locals. scoped locals (exec_row c body locals) then_do exec_held c third)
-  then_third_grows body third locals = then_do_kept (growing c.fuel) {first = scoped locals (exec_row c body locals)} {first' = scoped locals (exec_row c body locals)} {next = exec_held c third} {next' = exec_held c third} (body_grows body locals) (exec_held_kept (growing c.fuel) c.program c.call c.call calls (omega arith) third)
+  other_grows : (held : Held-StmtKind-If-1) → StatementGrows c.fuel (λ locals. scoped locals (exec_held c held locals))
+  other_grows held locals = scoped_kept (growing c.fuel) c.program {body = exec_held c held locals} {body' = exec_held c held locals} locals (exec_held_kept (growing c.fuel) c.program c.call c.call calls (omega arith) held locals)
+
+  then_third_grows : {n : _} (body : Row_of-Stmt n) (third : Held-StmtKind-If-1) → StatementGrows c.fuel (λ locals. scoped locals (exec_row c body locals) then_do λ locals. scoped locals (exec_held c third locals))
+  then_third_grows body third locals = then_do_kept (growing c.fuel) {first = scoped locals (exec_row c body locals)} {first' = scoped locals (exec_row c body locals)} {next = λ locals. scoped locals (exec_held c third locals)} {next' = λ locals. scoped locals (exec_held c third locals)} (body_grows body locals) (other_grows third)
 
   done_grows : StatementGrows {L = Locals} c.fuel done_with
   done_grows locals w = grows_not c.fuel w

@@ -64,5 +64,6 @@ test c at e locals = tested c.fuel at (condition c at e locals)
 abbrev pub exec_by : (bound : World → ℕ) → Context → Place → StmtKind → Statement Locals
 exec_by bound c at (While' e p body) locals = loop_by bound done_with (test c at (Some e)) (λ locals. scoped locals (exec_row c body locals)) locals
 exec_by bound c at (For' first e third p body) locals =
-    scoped locals (exec_held c first locals then_do loop_by bound done_with (test c at e) (λ locals. scoped locals (exec_row c body locals) then_do exec_held c third))
+    scoped locals (exec_held c first locals then_do loop_by bound done_with (test c at e) (λ locals.
+    scoped locals (exec_row c body locals) then_do λ locals. scoped locals (exec_held c third locals)))
 exec_by bound c at kind locals = exec c at kind locals

@@ -156,10 +156,11 @@ abbrev mutual
   exec c at (Store into e) locals =
       find c at locals into ⨾ target_of ⨾ λ t. eval c at locals e ⨾ λ word. store c.fuel at t word ⨾ λ _. done_with locals
   exec c at (Call name args) locals = eval_list c at locals args ⨾ c.call at name ⨾ λ _. done_with locals
-  exec c at (If' n arms other) locals = exec_arms c at arms (exec_held c other) locals
+  exec c at (If' n arms other) locals = exec_arms c at arms (λ locals. scoped locals (exec_held c other locals)) locals
   exec c at (While' e p body) locals = looped c at (Some e) (λ locals. scoped locals (exec_row c body locals)) locals
   exec c at (For' first e third p body) locals =
-      scoped locals (exec_held c first locals then_do looped c at e (λ locals. scoped locals (exec_row c body locals) then_do exec_held c third))
+      scoped locals (exec_held c first locals then_do looped c at e (λ locals.
+      scoped locals (exec_row c body locals) then_do λ locals. scoped locals (exec_held c third locals)))
   exec c at (Print e) locals = eval c at locals e ⨾ λ number. due c.fuel at (PrintNumber number) ⨾ λ _. done_with locals
   exec c at (Return None) locals = give (Returns (pos 0))
   exec c at (Return (Some e)) locals = eval c at locals e ⨾ λ word. give (Returns word)
@@ -197,16 +198,16 @@ abbrev pub exec_all : Context → List Stmt → Statement Locals
 exec_all c [] locals = done_with locals
 exec_all c (s ∷ body) locals = exec c s.at s.kind locals then_do exec_all c body
 
--- the parameters with their arguments
-abbrev pub bound : List Param → List ℤ → Locals
-bound [] words = []
-bound (p ∷ params) [] = []
-bound (p ∷ params) (word ∷ words) = local p.name (declared p.ctype) word ∷ bound params words
+-- the locals, and inside them the parameters with their arguments, the last one innermost
+abbrev pub bound : List Param → List ℤ → Locals → Locals
+bound [] words locals = locals
+bound (p ∷ params) [] locals = locals
+bound (p ∷ params) (word ∷ words) locals = bound params words (local p.name (declared p.ctype) word ∷ locals)
 
 -- the body of a function on its arguments
 abbrev pub in_function : Context → Option Func → List ℤ → Run ℤ
 in_function c None words = stop Unruled
-in_function c (Some f) words = exec_all c f.body (bound f.params words) ⨾ returned
+in_function c (Some f) words = exec_all c f.body (bound f.params words []) ⨾ returned
 
 -- a call where so many more functions may become active: it is counted, and then the function's body is done
 unfoldable pub called : Program → (fuel more : ℕ) → Place → List ℕ → List ℤ → Run ℤ

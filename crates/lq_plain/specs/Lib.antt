@@ -1,3 +1,4 @@
 pub mod Factors
 pub mod Flat
+pub mod Places
 pub mod Plain

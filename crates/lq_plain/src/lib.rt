@@ -3,4 +3,4 @@
 
 mod laws;
 
-pub use laws::functions_stay;
+pub use laws::{functions_stay, meaning_stays, meanings_have_rules};
