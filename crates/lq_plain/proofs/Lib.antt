@@ -20,3 +20,4 @@ pub mod Outside
 pub mod NamedReturns
 pub mod Ruled
 pub mod Named
+pub mod SpelledStores

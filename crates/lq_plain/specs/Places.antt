@@ -1,20 +1,12 @@
 -- Where a store goes (docs/LANGUAGE.md, "Statements").
-use Rattle.std.specs.Prelude.{Bool, true, false, IsTrue}
+use Rattle.std.specs.Prelude.{Bool, true, IsTrue}
 use Rattle.std.specs.List.{All}
-use Rattle.lq_tree.specs.declared.expr.Expr.{Expr, Index', Deref', Arrow', Dot'}
 use Rattle.lq_tree.specs.declared.stmt.Stmt.{Stmt}
 use Rattle.lq_tree.specs.declared.stmt.StmtKind.{StmtKind, Store}
 use Rattle.lq_tree.specs.declared.program.Func.{Func}
 use Rattle.lq_tree.specs.declared.program.Program.{Program}
 use Rattle.lq_tree.specs.Walk.{statements}
-
--- the name of an element or of a field of one: what may be read or stored there
-abbrev pub is_place : Expr → Bool
-is_place (Index' q a r i) = true
-is_place (Deref' q a) = true
-is_place (Arrow' q a field) = true
-is_place (Dot' q a field) = true
-is_place _ = false
+pub use Rattle.lq_parser.specs.Expressions.{is_place}
 
 -- a store goes to a place; all other statements pass
 abbrev pub stores_to_place : StmtKind → Bool

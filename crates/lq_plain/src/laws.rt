@@ -4,6 +4,8 @@ ghost use Rattle.std.specs.Prelude.{◌≡◌, ◌≢◌, List, ℕ, ℤ, map};
 ghost use Rattle.lq_tree.specs.declared.program.Program.{Program};
 ghost use Rattle.lq_tree.specs.declared.program.Func.{Func};
 ghost use Rattle.lq_tree.specs.declared.plain.PFunc.{PFunc};
+ghost use Rattle.lq_lexer.specs.declared.token.Token.{Token};
+ghost use Rattle.lq_parser.specs.Spelling.{Spells};
 ghost use Rattle.lq_meaning.specs.Ending.{Unruled};
 ghost use Rattle.lq_meaning.specs.Meaning.{sequential};
 ghost use Rattle.lq_meaning.specs.PlainMeaning.{sequential as plain_sequential};
@@ -30,4 +32,9 @@ pub fn meaning_stays()
 pub fn meanings_have_rules()
     ensures { (p : Program) → ((fault : Fault) → IsBroken p fault → ⊥) → StoresToPlaces p → (fuel words : ℕ) (input : List ℤ)
         → (sequential fuel words p input).ending ≢ Unruled }
+{}
+
+/// In a tree that tokens spell each store goes to a place.
+pub fn stores_go_to_places()
+    ensures { (text : List ℕ) (tokens : List Token) (p : Program) → Spells text tokens p → StoresToPlaces p }
 {}

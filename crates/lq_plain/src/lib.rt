@@ -3,4 +3,4 @@
 
 mod laws;
 
-pub use laws::{functions_stay, meaning_stays, meanings_have_rules};
+pub use laws::{functions_stay, meaning_stays, meanings_have_rules, stores_go_to_places};
