@@ -1,6 +1,6 @@
 -- What a statement of a regular source does, its plain form does.
 use mathlib.Core.Former.{Count, none_left, one_more}
-use Rattle.std.proofs.Common.{◌≡◌, ℕ, ◌+◌, ◌<◌, ◌≤◌, ℤ, pos, Bool, true, false, List, [], ◌∷◌, length, Option, None, Some, refl, sym, ap, ◌∙◌, subst, arith, true≢false, le_trans}
+use Rattle.std.proofs.Common.{◌≡◌, ℕ, ◌+◌, ◌<◌, ◌≤◌, ℤ, pos, Bool, true, List, [], ◌∷◌, length, Option, None, Some, refl, sym, ap, ◌∙◌, subst, arith, le_trans}
 use Rattle.std.specs.List.{AllByRecursion}
 use Rattle.lq_tree.specs.declared.place.Place.{Place}
 use Rattle.lq_tree.specs.declared.expr.Expr.{Expr}
@@ -24,7 +24,7 @@ use Rattle.lq_plain.proofs.Runs.{comes_still, then_do-done}
 use Rattle.lq_plain.proofs.Taken.{after_none, after_slot, one_slot, beside, Evaluated, Flattened, atom_evaluated, flat_evaluated, operand_evaluated}
 use Rattle.lq_plain.proofs.KeptForms.{IsNames, Given, given_none, given_more}
 use Rattle.lq_plain.proofs.KeptExpressions.{CallsAgree, place_named, wanted_flat, flattened}
-use Rattle.lq_plain.proofs.Alike.{Done, Stays, stays_done, done_stays, done_on, stays_on, done_none, scoped_stays}
+use Rattle.lq_plain.proofs.Alike.{Done, Stays, stays_done, done_on, stays_on, done_none, scoped_stays}
 use Rattle.lq_plain.proofs.KeptSteps.{print_stays, return_stays, return_nothing, call_stays, put_word, put_empty, set_stays, declare_done, index_taken, store_stays, if_stays, loop_stays, BranchesAlike, branches_none, branches_more, branch_alike, cobegin_stays, foreach_stays}
 
 -- a row of one

@@ -1,4 +1,11 @@
+pub mod FlatCases
+pub mod Forms
 pub mod Heads
+pub mod Scopes
+pub mod Settled
+pub mod StatementCases
+pub mod StatementForms
+pub mod Wanted
 pub mod worked
 pub mod Regular
 pub mod Related
@@ -21,3 +28,4 @@ pub mod NamedReturns
 pub mod Ruled
 pub mod Named
 pub mod SpelledStores
+pub mod FactorLemmas

@@ -1,14 +1,14 @@
 -- A statement that breaks no name rule has no `return` in a parallel statement.
-use Rattle.std.proofs.Common.{◌≡◌, ◌∷◌, ◌++◌, [], Bool, true, false, List, refl, sym, ◌∙◌, subst}
+use Rattle.std.proofs.Common.{◌≡◌, ◌∷◌, ◌++◌, [], Bool, true, false, List, refl, subst}
 use denote.Hole.Carrier
 use Rattle.std.specs.List.{AllByRecursion}
 use Rattle.lq_tree.specs.declared.place.Place.{Place}
 use Rattle.lq_tree.specs.declared.stmt.Stmt.{Stmt}
 use Rattle.lq_tree.specs.declared.stmt.Arm.{Arm, Arm', out-Arm}
-use Rattle.lq_tree.specs.declared.stmt.StmtKind.{StmtKind, out-StmtKind, Empty, Block', Local, Set, Store, Call, If', While', For', Print, Return, Cobegin', Foreach', Row_of-Stmt, end_of-Stmt, more_of-Stmt, Row_of-Arm, end_of-Arm, more_of-Arm, None', Some', Held-StmtKind-If-1}
+use Rattle.lq_tree.specs.declared.stmt.StmtKind.{StmtKind, out-StmtKind, Block', Local, If', While', For', Return, Cobegin', Foreach', Row_of-Stmt, end_of-Stmt, more_of-Stmt, Row_of-Arm, end_of-Arm, more_of-Arm, None', Some', Held-StmtKind-If-1}
 use Rattle.lq_names.specs.Scopes.{Site, in_parallel}
-use Rattle.lq_names.specs.Sites.{Placed, sites, sites_row, sites_each, sites_arms, sites_arm, sites_held, sites_list, after, after_row, after_first, iteration}
-use Rattle.lq_plain.proofs.NamedStatements.{AreClean, Kept, both_clean, first_clean}
+use Rattle.lq_names.specs.Sites.{sites, sites_row, sites_each, sites_arms, sites_arm, sites_held, sites_list, after, after_row, after_first, iteration}
+use Rattle.lq_plain.proofs.NamedStatements.{AreClean, both_clean, first_clean}
 use Rattle.lq_plain.proofs.Outside.{MayReturn, ReturnsOutside, AllReturnOutside, ArmsReturnOutside, ArmReturnsOutside, HeldReturnsOutside}
 
 -- a statement behind another stands in the same parallel statement

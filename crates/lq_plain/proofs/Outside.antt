@@ -1,7 +1,7 @@
 -- No `return` stands in a parallel statement; by recursion on the tree.
-use Rattle.std.proofs.Common.{ℕ, Bool, true, false, List}
+use Rattle.std.proofs.Common.{Bool, true, false}
 use Rattle.std.specs.List.{AllByRecursion}
-use Rattle.lq_tree.specs.declared.stmt.StmtKind.{StmtKind, Empty, Block', Local as Declare, Set, Store, Call, If', While', For', Print, Return, Cobegin', Foreach', Row_of-Stmt, end_of-Stmt, more_of-Stmt, Row_of-Arm, end_of-Arm, more_of-Arm, None', Some', Held-StmtKind-If-1}
+use Rattle.lq_tree.specs.declared.stmt.StmtKind.{StmtKind, Block', If', While', For', Return, Cobegin', Foreach', Row_of-Stmt, end_of-Stmt, more_of-Stmt, Row_of-Arm, end_of-Arm, more_of-Arm, None', Some', Held-StmtKind-If-1}
 use Rattle.lq_tree.specs.declared.stmt.Stmt.{Stmt}
 use Rattle.lq_tree.specs.declared.stmt.Arm.{Arm, Arm'}
 use Rattle.lq_tree.specs.declared.program.Func.{Func}

@@ -1,5 +1,5 @@
 -- A regular source meets no form without a meaning.
-use Rattle.std.proofs.Common.{◌≡◌, ◌≢◌, ℕ, zero, suc, ◌^◌, ◌-◌, ℤ, pos, negsuc, nat_abs, ◌+ℤ◌, List, [], ◌∷◌, length, refl, sym, Bool, true, false, nat_lt, if◌then◌else◌, Option, None, Some, inl, inr, subst, map}
+use Rattle.std.proofs.Common.{◌≡◌, ◌≢◌, ℕ, zero, suc, ◌^◌, ℤ, pos, negsuc, nat_abs, ◌+ℤ◌, List, [], ◌∷◌, length, refl, sym, Bool, true, false, nat_lt, if◌then◌else◌, Option, None, Some, inl, inr, subst, map}
 use Rattle.std.specs.Prelude.{codes, find as find_first}
 use Rattle.std.proofs.lemmas.Bool.{cases_Bool}
 use Rattle.std.specs.List.{AllByRecursion}
@@ -15,16 +15,16 @@ use Rattle.lq_tree.specs.declared.stmt.Arm.{Arm, Arm'}
 use Rattle.lq_tree.specs.declared.program.Func.{Func}
 use Rattle.lq_tree.specs.declared.program.Program.{Program}
 use Rattle.lq_tree.specs.Lookup.{function_of, same}
-use Rattle.lq_tree.specs.Types.{Variable, Number, element_of, is_pointer}
-use Rattle.lq_tree.specs.Layout.{fields_of, field_number}
+use Rattle.lq_tree.specs.Types.{Variable, Number, is_pointer}
+use Rattle.lq_tree.specs.Layout.{fields_of}
 use Rattle.lq_meaning.specs.World.{World, Action, Acted, Answers, Traps, Strays, act, Allocate, Load as LoadWord, Store as StoreWord, Print as PrintNumber, Enter, Start, Test}
 use Rattle.lq_meaning.specs.Ending.{Trap, Ending, Done, Trapped, Strayed, Spent, Unruled, Outcome}
 use Rattle.lq_meaning.specs.Operators.{Computed, Computes, Fails, negation, truth, truth_of, is_zero, binary}
-use Rattle.lq_meaning.specs.Control.{trapped, Came, Gives, Stops, Run, give, stop, go_on, ◌⨾◌, computed, answered, due, by_truth, Target, Flow, GoesOn, Returns, Statement, unless_returned, done_with, ◌then_do◌, tested, loop, caught, branch, before, joined, iterations, iteration_count, each, returned, ended}
+use Rattle.lq_meaning.specs.Control.{trapped, Came, Gives, Stops, Run, give, stop, go_on, ◌⨾◌, computed, answered, due, by_truth, Flow, GoesOn, Returns, Statement, unless_returned, done_with, ◌then_do◌, loop, caught, branch, before, joined, iterations, iteration_count, each, returned, ended}
 use Rattle.lq_meaning.specs.Entry.{enter, start, start_on, arguments}
 use Rattle.lq_meaning.specs.Meaning.{Context, Locals, local, word_of, type_by, Found, Value, Names, target, value_of, target_of, operated, find, find_row, eval_row, eval_args, eval, eval_list, condition, without, scoped, looped, exec, exec_row, exec_held, exec_arms, exec_arm, branches, exec_all, bound, in_function, called, context, enter_main, sequential}
 use Rattle.lq_plain.specs.Places.{is_place}
-use Rattle.lq_plain.proofs.Regular.{parameter, is_place_row, Takes, IsRegular, IsRegularPart, AreRegular, IsRegularOption, variables_behind, variables_behind_held, IsRegularStatement, AreRegularStatements, AreRegularBlocks, AreRegularArms, IsRegularArm, IsRegularHeld, IsRegularBody, IsRegularFunction, IsRegularProgram}
+use Rattle.lq_plain.proofs.Regular.{parameter, is_place_row, Takes, IsRegular, IsRegularPart, AreRegular, IsRegularOption, variables_behind, variables_behind_held, IsRegularStatement, AreRegularStatements, AreRegularBlocks, AreRegularArms, IsRegularArm, IsRegularHeld, IsRegularBody, IsRegularFunction}
 use Rattle.lq_plain.proofs.Outside.{ReturnsOutside, AllReturnOutside, ArmsReturnOutside, ArmReturnsOutside, HeldReturnsOutside, BodyReturnsOutside}
 
 -- every way to end but by a form without a meaning

@@ -1,4 +1,10 @@
 pub mod Factors
 pub mod Flat
 pub mod Places
+pub mod Lists
 pub mod Plain
+pub mod Seen
+pub mod SeenArms
+pub mod SeenFlat
+pub mod SeenMade
+pub mod Sites

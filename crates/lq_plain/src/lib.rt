@@ -1,6 +1,25 @@
-//! The plain form of a program, in which every expression is pure: its definition, and what follows from it.
+//! The plain form of a program, in which every expression is pure: its definition, the function that makes it, and what
+//! follows from the definition.
 #![tactic(auto)]
 
+mod arms;
+mod copies;
+mod factors;
+mod flat;
+mod flatten;
+mod functions;
 mod laws;
+mod lookups;
+mod made;
+mod operators;
+mod parts;
+mod program;
+mod scope;
+mod site;
+mod statements;
+#[cfg(test)]
+mod tests;
+mod values;
 
 pub use laws::{functions_stay, meaning_stays, meanings_have_rules, stores_go_to_places};
+pub use program::plain;
