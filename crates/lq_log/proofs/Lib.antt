@@ -1,2 +1,6 @@
 pub mod PathLaws
 pub mod RaceLaws
+pub mod SeenLaws
+pub mod ForkLaws
+pub mod NoteLaws
+pub mod KeyLaws

@@ -1,13 +1,14 @@
 -- What the first partner of an entry says of the races of a log.
-use Rattle.std.proofs.Common.{◌≡◌, ℕ, ◌+◌, ◌<◌, ◌≤◌, inl, inr, Bool, true, false, nat_lt, List, length, take, get_or, None, Some, slice_get, position, sym, ap, ◌∙◌, subst, arith}
+use Rattle.std.proofs.Common.{◌≡◌, ℕ, ◌<◌, ◌≤◌, inl, inr, Bool, true, false, nat_lt, List, length, take, get_or, Option, None, Some, slice_get, position, sym, ap, ◌∙◌, subst, arith}
+use Rattle.std.specs.Option.{MatchOption, IsSomeAnd}
 use Rattle.std.specs.List.{position_or_len}
-use Rattle.std.proofs.lemmas.Bool.{cases_eq, cases_lt, cases_order, cases_Bool, both_ways, ltb-false, cond-true}
+use Rattle.std.proofs.lemmas.Bool.{cases_lt, cases_order, cases_Bool, both_ways, ltb-false, cond-true}
 use Rattle.std.proofs.lemmas.List.{get_or-take, length-take-le}
 use Rattle.std.proofs.lemmas.List.Quantifiers.{position-Some}
 use Rattle.std.proofs.lemmas.List.Sums.{fails_before_first}
 use Rattle.std.proofs.lemmas.Option.{none-some, same_Some, slice_get_within, slice_get-get_or, get_or_from_slice_get}
 use Rattle.lq_log.specs.declared.entry.Entry.{Entry}
-use Rattle.lq_log.specs.Race.{races, IsRace, IsLeastRace}
+use Rattle.lq_log.specs.Race.{races, IsRace, IsLeastRace, IsRaceFree}
 
 -- whether an entry races with this later one
 abbrev races_with : Entry → Entry → Bool
@@ -28,19 +29,12 @@ none_passes p xs k d none within = elim (cases_Bool (nat_lt (position_or_len p x
 ]
 
 -- an entry without partner is the second of no race
-no_partner : (log : List Entry) (i j : ℕ) (later : Entry) → slice_get log j ≡ Some later → position (races_with later) (take j log) ≡ None → IsRace log i j → ⊥
+pub no_partner : (log : List Entry) (i j : ℕ) (later : Entry) → slice_get log j ≡ Some later → position (races_with later) (take j log) ≡ None → IsRace log i j → ⊥
 no_partner log i j later at_j none race =
     let long : length (take j log) ≡ j = length-take-le j log (omega (arith, slice_get_within log j later at_j)) in
     both_ways (races (get_or (take j log) i later) later)
     (none_passes (races_with later) (take j log) i later none (omega (arith, race.before)))
     (seen log i j later at_j race)
-
--- one more entry without partner
-pub none_more : (log : List Entry) (j : ℕ) (later : Entry) → slice_get log j ≡ Some later → position (races_with later) (take j log) ≡ None → ((i k : ℕ) → k < j → IsRace log i k → ⊥) → (i k : ℕ) → k < j + 1 → IsRace log i k → ⊥
-none_more log j later at_j none none_before i k up_to race = elim (cases_eq k j) [
-  | inl same ↦ no_partner log i j later at_j none (subst (IsRace log i) same race)
-  | inr other ↦ none_before i k (omega arith) race
-]
 
 -- no entry but those of the log
 pub none_behind : (log : List Entry) (n : ℕ) → length log ≤ n → ((i k : ℕ) → k < n → IsRace log i k → ⊥) → (i k : ℕ) → IsRace log i k → ⊥
@@ -69,3 +63,11 @@ first_partner log i j later at_j found none_before =
         | inr (inr in_front) ↦ absurd (none_before k l in_front other)
       ];
     }
+
+-- the first partner of an entry that is the second of a race, in a pair with it
+pub least_pair : (log : List Entry) (j : ℕ) (later : Entry) (first : Option ℕ) (pair : Option (ℕ × ℕ)) (Gives : ℕ → ℕ × ℕ → Type 0) → slice_get log j ≡ Some later → first ≡ position (races_with later) (take j log) → ((k l : ℕ) → l < j → IsRace log k l → ⊥) → (i : ℕ) × IsRace log i j
+    → MatchOption first (pair ≡ None) (λ i. IsSomeAnd pair (Gives i)) → ((i : ℕ) (p : ℕ × ℕ) → Gives i p → p ≡ (i, j)) → MatchOption pair (IsRaceFree log) (λ p. IsLeastRace log p.0 p.1)
+least_pair log j later None pair Gives at_j found none_before race cases gives = absurd (no_partner log race.0 j later at_j (sym found) race.1)
+least_pair log j later (Some i) None Gives at_j found none_before race cases gives = elim cases [ ]
+least_pair log j later (Some i) (Some p) Gives at_j found none_before race cases gives =
+    subst (λ q. IsLeastRace log q.0 q.1) (sym (gives i p cases)) (first_partner log i j later at_j (sym found) none_before)

@@ -2,6 +2,7 @@
 #![tactic(auto)]
 
 mod entry;
+mod forks;
 mod laws;
 mod race;
 #[cfg(test)]

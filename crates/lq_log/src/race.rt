@@ -4,7 +4,9 @@ ghost use Rattle.std.specs.Prelude.{◌≡◌, MatchOption, IfOk, position};
 ghost use Rattle.lq_log.specs.Race.{unordered as unordered_paths, meet as meet_at, races as are_a_race, IsRaceFree, IsLeastRace};
 
 use crate::Entry;
+use crate::forks::note;
 use std::alloc::{AllocError, Global};
+use std::collections::HashMap;
 
 /// Whether two paths first differ at a branch.
 fn unordered(path: &[u64], other: &[u64]) -> bool
@@ -43,13 +45,15 @@ fn partner(log: &[Entry], later: &Entry) -> Option<usize>
 
 /// The least race: the numbers, from 0, of the two entries of the race whose second entry comes first, and of these of
 /// the one whose first entry comes first; none exactly where the log has no race (docs/LANGUAGE.md, "Races"). An error
-/// would be want of memory. It compares each entry with all before it, and takes no memory.
-pub fn first_race(_alloc: Global, log: &[Entry]) -> Result<Option<(usize, usize)>, AllocError>
+/// is want of memory. It looks once at each branch that an entry took, and only at the second entry of the race at the
+/// entries before it.
+pub fn first_race(alloc: Global, log: &[Entry]) -> Result<Option<(usize, usize)>, AllocError>
     ensures { IfOk result (λ found. MatchOption found (IsRaceFree log.now) (λ race. IsLeastRace log.now race.0 race.1)) }
 {
+    let mut forks = HashMap::new(alloc);
     for (j, later) in log.iter().enumerate() {
-        if let Some(i) = partner(&log[..j], later) {
-            return Ok(Some((i, j)));
+        if note(alloc, &mut forks, later)? {
+            return Ok(partner(&log[..j], later).map(|i| (i, j)));
         }
     }
     Ok(None)

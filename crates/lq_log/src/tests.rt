@@ -21,17 +21,26 @@ const OTHER_FIELD: Address = (1, 0, 1);
 
 const OTHER_BLOCK: Address = (2, 0, 0);
 
+fn entry_of(
+    alloc: Global,
+    path: &[u64],
+    write: bool,
+    (block, element, field): Address,
+) -> Result<Entry, AllocError> {
+    Ok(Entry {
+        path: Path::from_slice(alloc, path)?,
+        write,
+        block,
+        element,
+        field,
+        at: Place { line: 1, col: 1 },
+    })
+}
+
 fn log_of(alloc: Global, accesses: &[Access]) -> Result<Vec<Entry>, AllocError> {
     let mut log = Vec::new(alloc);
-    for (path, write, (block, element, field)) in accesses {
-        log.push(Entry {
-            path: Path::from_slice(alloc, path)?,
-            write: *write,
-            block: *block,
-            element: *element,
-            field: *field,
-            at: Place { line: 1, col: 1 },
-        })?;
+    for (path, write, address) in accesses {
+        log.push(entry_of(alloc, path, *write, *address)?)?;
     }
     Ok(log)
 }
@@ -141,5 +150,30 @@ fn tells_no_race(rt: HostRuntime) -> Result<(), Fail> {
     for (name, accesses, want) in NO_RACES {
         assert_eq!(rt; race_in(rt.alloc(), accesses)?, want, "{name}");
     }
+    Ok(())
+}
+
+/// The log of a loop whose branches each store one element, and of loads of all of them behind it.
+fn each_its_own(alloc: Global, count: u32) -> Result<Vec<Entry>, AllocError> {
+    let mut log = Vec::new(alloc);
+    for element in 0..count {
+        let branch = [0, u64::from(element), 0];
+        log.push(entry_of(alloc, &branch, STORE, (1, element, 0))?)?;
+    }
+    for element in 0..count {
+        log.push(entry_of(alloc, &[1], LOAD, (1, element, 0))?)?;
+    }
+    Ok(log)
+}
+
+#[test]
+fn answers_for_a_long_log(rt: HostRuntime) -> Result<(), Fail> {
+    let mut log = each_its_own(rt.alloc(), 100_000)?;
+    assert_eq!(rt; first_race(rt.alloc(), log.as_slice())?, None);
+    log.push(entry_of(rt.alloc(), &[0, 100_000, 0], LOAD, (1, 99_999, 0))?)?;
+    assert_eq!(rt;
+        first_race(rt.alloc(), log.as_slice())?,
+        Some((99_999, 200_000))
+    );
     Ok(())
 }
