@@ -7,7 +7,8 @@ use Rattle.lq_meaning.specs.Agree.{Agree}
 use Rattle.lq_meaning.proofs.Agree.{Agree-refl, Agree-trans}
 use Rattle.lq_meaning.specs.Ending.{Trap, Ending, Done, Trapped, Strayed, Spent, Unruled}
 use Rattle.lq_log.specs.declared.entry.Entry.{Entry}
-use Rattle.lq_machine.specs.Task.{Task, Ended, Due, Fork, runnable, has_ended, ending_of, Stepped, Moves, Leaves, step}
+use Rattle.lq_meaning.specs.Task.{Task, Ended, Due, Fork, has_ended}
+use Rattle.lq_machine.specs.Step.{runnable, ending_of, Stepped, Moves, Leaves, step}
 use Rattle.lq_machine.specs.Run.{first_pick, other_picks, run}
 use Rattle.lq_machine.proofs.Leaves.{LeafAt, leaf_at, Leaf-number}
 use Rattle.lq_machine.proofs.Commute.{StillLeads, Meeting, leaves_commute}

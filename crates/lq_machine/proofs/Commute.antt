@@ -1,10 +1,12 @@
 -- Steps of two runnable leaves of one task, whose actions are apart, commute.
 use Rattle.std.proofs.Common.{◌≡◌, ◌≢◌, ℕ, ◌+◌, ℤ, List, refl, sym, ap, ◌∙◌, subst}
 use Rattle.lq_tree.specs.declared.trap.TrapKind.{TrapKind}
-use Rattle.lq_meaning.specs.World.{World, Action, Acted, Answers, Traps, Strays, act}
+use Rattle.lq_meaning.specs.declared.action.Action.{Action}
+use Rattle.lq_meaning.specs.World.{World, Acted, Answers, Traps, Strays, act}
 use Rattle.lq_meaning.proofs.Apart.{Apart, apart_commute, apart-Traps, Apart-sym}
 use Rattle.lq_log.specs.declared.entry.Entry.{Entry}
-use Rattle.lq_machine.specs.Task.{Spot, Task, Tasks, more, runnable, forked, Moves, moved, logged, resumed, step}
+use Rattle.lq_meaning.specs.Task.{Spot, Task, Tasks, more, forked}
+use Rattle.lq_machine.specs.Step.{runnable, Moves, moved, logged, resumed, step}
 use Rattle.lq_machine.proofs.Leaves.{LeafAt, Leaf, here, inside, LeafIn, first, later, step-Leaf, step-answers, inside_forked}
 
 -- Behind x in the place of one leaf the other leaf is still there, behind y in the place of the other the one is, and

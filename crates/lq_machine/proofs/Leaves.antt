@@ -1,8 +1,10 @@
 -- The runnable leaves of a task, by clauses on the tree and not by number.
 use Rattle.std.proofs.Common.{◌≡◌, ℕ, ◌+◌, ◌-◌, ◌<◌, ℤ, nat_lt, Bool, true, false, ◌&&◌, refl, sym, ap, ◌∙◌, subst, ⊎_elim, arith}
 use Rattle.std.proofs.lemmas.Bool.{cases_lt, lt-ltb, le-ltb}
-use Rattle.lq_meaning.specs.World.{World, Action, Answers, act}
-use Rattle.lq_machine.specs.Task.{Spot, Task, Ended, Due, Fork, Tasks, none, more, runnable, all_runnable, has_ended, all_ended, forked, Stepped, Moves, Leaves, moved, logged, resumed, step, step_in}
+use Rattle.lq_meaning.specs.declared.action.Action.{Action}
+use Rattle.lq_meaning.specs.World.{World, Answers, act}
+use Rattle.lq_meaning.specs.Task.{Spot, Task, Ended, Due, Fork, Tasks, none, more, has_ended, all_ended, forked}
+use Rattle.lq_machine.specs.Step.{runnable, all_runnable, Stepped, Moves, Leaves, moved, logged, resumed, step, step_in}
 
 -- A runnable leaf of a task, or of tasks: its number, its place, its action, what it becomes by its answer, and the
 -- whole with another task in its place.

@@ -6,3 +6,5 @@ pub mod Alike
 pub mod Follows
 pub mod Printed
 pub mod worked
+pub mod FirstLeaves
+pub mod SameRuns

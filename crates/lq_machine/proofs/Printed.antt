@@ -7,7 +7,8 @@ use Rattle.lq_meaning.proofs.Printed.{Adds, Adds-none, Adds-trans, act_adds}
 use Rattle.lq_meaning.specs.World.{World, Acted, Answers, Traps, Strays, act}
 use Rattle.lq_meaning.specs.Ending.{Outcome}
 use Rattle.lq_log.specs.declared.entry.Entry.{Entry}
-use Rattle.lq_machine.specs.Task.{Spot, Task, Ended, Due, Fork, Tasks, none, more, forked, step, step_in, Stepped, Moves, Leaves, moved, logged, resumed, runnable}
+use Rattle.lq_meaning.specs.Task.{Spot, Task, Ended, Due, Fork, Tasks, none, more, forked}
+use Rattle.lq_machine.specs.Step.{step, step_in, Stepped, Moves, Leaves, moved, logged, resumed, runnable}
 use Rattle.lq_machine.specs.Run.{first_pick, other_picks, run}
 use Rattle.lq_machine.proofs.Runs.{outcome_behind, leaf_of, run-step, run-spent, run-still}
 

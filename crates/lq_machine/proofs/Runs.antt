@@ -4,7 +4,8 @@ use Rattle.std.proofs.Math.Nat.{mod-eq_of_lt}
 use Rattle.lq_meaning.specs.World.{World}
 use Rattle.lq_meaning.specs.Ending.{Ending, Strayed, Spent, Outcome}
 use Rattle.lq_log.specs.declared.entry.Entry.{Entry}
-use Rattle.lq_machine.specs.Task.{Task, Ended, runnable, ending_of, Stepped, Moves, Leaves, step}
+use Rattle.lq_meaning.specs.Task.{Task, Ended}
+use Rattle.lq_machine.specs.Step.{runnable, ending_of, Stepped, Moves, Leaves, step}
 use Rattle.lq_machine.specs.Run.{first_pick, other_picks, Ran, stopped, while_runnable, then_run, ran, run}
 
 abbrev pub ends : Ending → World → Outcome

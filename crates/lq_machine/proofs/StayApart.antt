@@ -1,9 +1,11 @@
 -- Tasks of which no two runnable leaves meet and none strays, however the run goes on.
 use Rattle.std.proofs.Common.{◌≡◌, ◌≢◌, ℕ, zero, suc, ◌<◌, ℤ, true, sym, subst, arith}
-use Rattle.lq_meaning.specs.World.{World, Action, act}
+use Rattle.lq_meaning.specs.declared.action.Action.{Action}
+use Rattle.lq_meaning.specs.World.{World, act}
 use Rattle.lq_meaning.specs.Ending.{Ending}
 use Rattle.lq_meaning.proofs.Apart.{Apart}
-use Rattle.lq_machine.specs.Task.{Spot, Task, Ended, Due, runnable, has_ended, Stepped, Moves, Leaves, moved, logged, resumed, step}
+use Rattle.lq_meaning.specs.Task.{Spot, Task, Ended, Due, has_ended}
+use Rattle.lq_machine.specs.Step.{runnable, Stepped, Moves, Leaves, moved, logged, resumed, step}
 use Rattle.lq_machine.proofs.Leaves.{LeafAt, leaf_at, Leaf-number, step-Leaf}
 use Rattle.lq_machine.proofs.Runs.{leaf_of, leaf_of-is_leaf}
 

@@ -1,5 +1,3 @@
-pub mod Task
-pub mod Line
+pub mod Step
 pub mod Run
-pub mod Behaviour
 pub mod Replay

@@ -4,7 +4,7 @@ use Rattle.lq_tree.specs.declared.plain.PProgram.{PProgram}
 use Rattle.lq_meaning.specs.Ending.{Outcome}
 use Rattle.lq_log.specs.declared.entry.Entry.{Entry}
 use Rattle.lq_machine.specs.Run.{run, log}
-use Rattle.lq_machine.specs.Behaviour.{Beginning, beginning}
+use Rattle.lq_meaning.specs.Behaviour.{Beginning, beginning}
 
 abbrev pub run_from : (fuel : ℕ) → (picks : List ℕ) → Beginning → Outcome
 run_from fuel picks b = run fuel picks b.task b.world

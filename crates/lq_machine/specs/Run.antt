@@ -3,7 +3,8 @@ use Rattle.std.specs.Prelude.{ℕ, zero, suc, ◌%◌, List, [], ◌∷◌, ◌+
 use Rattle.lq_meaning.specs.World.{World}
 use Rattle.lq_meaning.specs.Ending.{Ending, Strayed, Spent, Outcome}
 use Rattle.lq_log.specs.declared.entry.Entry.{Entry}
-use Rattle.lq_machine.specs.Task.{Task, runnable, ending_of, Stepped, Moves, Leaves, step}
+use Rattle.lq_meaning.specs.Task.{Task}
+use Rattle.lq_machine.specs.Step.{runnable, ending_of, Stepped, Moves, Leaves, step}
 
 -- the next pick, and those behind it; behind the last one every pick is 0
 abbrev pub first_pick : List ℕ → ℕ

@@ -3,4 +3,4 @@
 
 mod laws;
 
-pub use laws::ended_tasks_stay;
+pub use laws::{bounds_of_tasks_do_not_matter, ended_tasks_stay, first_leaves_run_in_order};

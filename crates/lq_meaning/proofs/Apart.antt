@@ -1,9 +1,12 @@
 -- Two actions that do not meet may be done in either order.
 use Rattle.std.proofs.Common.{◌≡◌, ◌≢◌, ℕ, ◌+◌, ℤ, Option, None, Some, refl, sym, ap, ◌∙◌}
 use Rattle.lq_tree.specs.declared.trap.TrapKind.{TrapKind}
-use Rattle.lq_meaning.specs.Memory.{Blocks, Address, word_at, with_word, reach}
-use Rattle.lq_meaning.specs.World.{World, Action, Load, Store, Answers, Traps, counted, loaded, stored, act}
-use Rattle.lq_meaning.proofs.Blocks.{Lies-reach, reach-with_word, word_at-with_word_other, with_word_comm}
+use Rattle.lq_meaning.specs.declared.memory.Address.{Address}
+use Rattle.lq_meaning.specs.Memory.{Blocks, word_at, with_word, reach}
+use Rattle.lq_meaning.specs.declared.action.Action.{Action}
+use Rattle.lq_meaning.specs.declared.action.Action.TheVariants.{Load, Store}
+use Rattle.lq_meaning.specs.World.{World, Answers, Traps, counted, loaded, stored, act}
+use Rattle.lq_meaning.proofs.Writes.{Lies-reach, reach-with_word, word_at-with_word_other, with_word_comm}
 
 -- Two actions are apart in a memory where both are loads, or where each is a load or a store and they reach two
 -- addresses. A calloc and a print are apart from nothing.

@@ -4,9 +4,12 @@ use Rattle.std.proofs.lemmas.Bool.{and_from, lt-ltb, cond-true}
 use Rattle.std.proofs.Math.Nat.{div-one}
 use Rattle.std.proofs.Math.IntN.{+ℤ_idl}
 use Rattle.lq_meaning.specs.Word.{pointer}
-use Rattle.lq_meaning.specs.Memory.{Blocks, elements, Address, block_at, lies, word_at, with_word, reach_element, reach}
-use Rattle.lq_meaning.specs.World.{World, Action, Load, Store, Answers, counted, loaded, stored, act}
-use Rattle.lq_meaning.proofs.Blocks.{Lies-reach, SameShape-with_word}
+use Rattle.lq_meaning.specs.declared.memory.Address.{Address}
+use Rattle.lq_meaning.specs.Memory.{Blocks, elements, block_at, lies, word_at, with_word, reach_element, reach}
+use Rattle.lq_meaning.specs.declared.action.Action.{Action}
+use Rattle.lq_meaning.specs.declared.action.Action.TheVariants.{Load, Store}
+use Rattle.lq_meaning.specs.World.{World, Answers, counted, loaded, stored, act}
+use Rattle.lq_meaning.proofs.Writes.{Lies-reach, SameShape-with_word}
 
 -- the pointer to its first element
 abbrev pub array : ℤ

@@ -1,8 +1,11 @@
 -- Each action costs 1, whatever comes of it.
 use Rattle.std.proofs.Common.{◌≡◌, ℕ, zero, suc, ◌+◌, ◌*◌, ℤ, pos, negsuc, nat_lt, Option, None, Some, refl}
 use Rattle.std.proofs.lemmas.Bool.{cond_both}
-use Rattle.lq_meaning.specs.Memory.{Address, reach}
-use Rattle.lq_meaning.specs.World.{World, Action, Allocate, Load, Store, Print, Enter, Test, Start, Acted, Answers, Traps, Strays, counted, allocated, take_words, loaded, stored, entered, act}
+use Rattle.lq_meaning.specs.declared.memory.Address.{Address}
+use Rattle.lq_meaning.specs.Memory.{reach}
+use Rattle.lq_meaning.specs.declared.action.Action.{Action}
+use Rattle.lq_meaning.specs.declared.action.Action.TheVariants.{Allocate, Load, Store, Print, Enter, Test, Start}
+use Rattle.lq_meaning.specs.World.{World, Acted, Answers, Traps, Strays, counted, allocated, take_words, loaded, stored, entered, act}
 
 -- the world that an action leaves
 abbrev pub left_by : Acted → World

@@ -9,7 +9,7 @@ use Rattle.lq_tree.specs.declared.stmt.StmtKind.{Block, Store, Cobegin, Row_of-S
 use Rattle.lq_tree.specs.declared.stmt.StmtKind.TheBlock.{hidden-the_row-Stmt-0}
 use Rattle.lq_tree.specs.declared.stmt.Stmt.{Stmt}
 use Rattle.lq_tree.specs.Layout.{fields_of}
-use Rattle.lq_meaning.specs.World.{Allocate}
+use Rattle.lq_meaning.specs.declared.action.Action.TheVariants.{Allocate}
 use Rattle.lq_meaning.specs.Ending.{Trap, Unruled}
 use Rattle.lq_meaning.specs.Control.{Run, give, stop, ◌⨾◌, due, Target, load, store, Flow, done_with, ◌then_do◌, branch, before, joined}
 use Rattle.lq_meaning.specs.Meaning.{Context, Locals, target, value, names, value_of, target_of, find, eval, eval_row, exec, exec_row, exec_all, scoped, branches}

@@ -2,7 +2,8 @@
 use Rattle.std.proofs.Common.{◌≡◌, ℕ, ◌<◌, ◌≤◌, ℤ, nat_lt, refl, arith}
 use Rattle.std.proofs.lemmas.Bool.{cond_both, ltb-true}
 use Rattle.lq_tree.specs.declared.place.Place.{Place}
-use Rattle.lq_meaning.specs.World.{World, Action, Acted, Answers, Traps, Strays, act}
+use Rattle.lq_meaning.specs.declared.action.Action.{Action}
+use Rattle.lq_meaning.specs.World.{World, Acted, Answers, Traps, Strays, act}
 use Rattle.lq_meaning.specs.Ending.{Done, Trapped, Strayed, Spent, Unruled}
 use Rattle.lq_meaning.specs.Control.{Came, Gives, Stops, Run, go_on, answered, due, Flow, GoesOn, Returns, caught, ended}
 use Rattle.lq_meaning.specs.Laws.{world_of, Grows, RunGrows}
@@ -50,7 +51,7 @@ module _ (fuel : ℕ) where
       cond_both (nat_lt w.cost fuel) _ _ (λ (r : Came ℤ). Grows fuel w (world_of r))
       (λ left. answered_grows at w (act action w) (act_grows action w (ltb-true w.cost fuel left))) (λ _. grows_not w)
 
-  go_on_grows : {X Y : Type 0} {w : World} (a : Came X) (next : X → Run Y) → Grows fuel w (world_of a) → ((x : X) → RunGrows fuel (next x)) → Grows fuel w (world_of (go_on a next))
+  pub go_on_grows : {X Y : Type 0} {w : World} (a : Came X) (next : X → Run Y) → Grows fuel w (world_of a) → ((x : X) → RunGrows fuel (next x)) → Grows fuel w (world_of (go_on a next))
   go_on_grows (Gives x v) next grows goes = grows_on grows (goes x v)
   go_on_grows (Stops ending v) next grows goes = grows
 

@@ -2,7 +2,9 @@
 use Rattle.std.proofs.Common.{◌≡◌, ℕ, zero, suc, ◌≤◌, ◌^◌, ℤ, pos, negsuc, ◌+ℤ◌, Bool, true, false, nat_lt, if◌then◌else◌, List, [], length, Option, None, Some, refl, arith}
 use Rattle.std.specs.Option.{option_or}
 use Rattle.lq_tree.specs.declared.place.Place.{Place}
-use Rattle.lq_meaning.specs.World.{World, Action, Start, Test}
+use Rattle.lq_meaning.specs.declared.action.Action.{Action}
+use Rattle.lq_meaning.specs.declared.action.Action.TheVariants.{Start, Test}
+use Rattle.lq_meaning.specs.World.{World}
 use Rattle.lq_meaning.specs.Ending.{Trap, Ending, Spent, Trapped}
 use Rattle.lq_meaning.specs.Operators.{Computed, Computes, Fails}
 use Rattle.lq_meaning.specs.Control.{trapped, Run, give, stop, ◌⨾◌, computed, due, by_truth, Flow, GoesOn, Returns, Statement, unless_returned, ◌then_do◌, tested, loop, branch, before, joined, iterations, iteration_count, each, returned}
@@ -19,12 +21,12 @@ pub record IsKept (fuel more : ℕ) (K : (X : Type 0) → Run X → Run X → Ty
   pub branch : {L : Type 0} {run run' : Run (Flow L)} → K (Flow L) run run' → K (Option Trap) (branch run) (branch run')
 
 -- one of two by a test
-either : {R : Type 0} (O : R → R → Type 0) {holds holds' fails fails' : R} (test : Bool) → O holds holds' → O fails fails' → O (if test then holds else fails) (if test then holds' else fails')
+pub either : {R S : Type 0} (O : R → S → Type 0) {holds fails : R} {holds' fails' : S} (test : Bool) → O holds holds' → O fails fails' → O (if test then holds else fails) (if test then holds' else fails')
 either O true holds fails = holds
 either O false holds fails = fails
 
 -- what holds of a refusal and of each entry from a world that cost nothing, holds of how `main` is entered
-pub enter_kept : {R : Type 0} (O : R → R → Type 0) {refused refused' : World → R} {entered entered' : List ℤ → World → R} (params words : ℕ) (input : List ℤ)
+pub enter_kept : {R S : Type 0} (O : R → S → Type 0) {refused : World → R} {refused' : World → S} {entered : List ℤ → World → R} {entered' : List ℤ → World → S} (params words : ℕ) (input : List ℤ)
     → ((w : World) → w.cost ≡ 0 → O (refused w) (refused' w)) → ((arguments : List ℤ) (w : World) → w.cost ≡ 0 → O (entered arguments w) (entered' arguments w))
     → O (enter refused entered params words input) (enter refused' entered' params words input)
 enter_kept O zero words input refuses enters = enters [] (start words) refl

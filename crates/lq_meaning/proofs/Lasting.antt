@@ -2,7 +2,8 @@
 use Rattle.std.proofs.Common.{◌≡◌, ◌≢◌, ℕ, ◌<◌, ◌≤◌, ℤ, nat_lt, refl, sym, subst, arith}
 use Rattle.std.proofs.lemmas.Bool.{cond_both, cond-true, ltb-true, lt-ltb}
 use Rattle.lq_tree.specs.declared.place.Place.{Place}
-use Rattle.lq_meaning.specs.World.{World, Action, act}
+use Rattle.lq_meaning.specs.declared.action.Action.{Action}
+use Rattle.lq_meaning.specs.World.{World, act}
 use Rattle.lq_meaning.specs.Ending.{Spent}
 use Rattle.lq_meaning.specs.Control.{Came, Gives, Stops, Run, go_on, answered, due, Flow, caught, ended}
 use Rattle.lq_meaning.proofs.Kept.{IsKept}

@@ -10,7 +10,8 @@ use Rattle.lq_tree.specs.declared.plain.Branch.{Branch, Branch'}
 use Rattle.lq_tree.specs.declared.plain.PFunc.{PFunc}
 use Rattle.lq_tree.specs.declared.plain.PProgram.{PProgram}
 use Rattle.lq_tree.specs.Layout.{fields_of}
-use Rattle.lq_meaning.specs.World.{World, Allocate, Load as LoadWord, Store as StoreWord, Print as PrintNumber, Enter}
+use Rattle.lq_meaning.specs.declared.action.Action.TheVariants.{Allocate, Load as LoadWord, Store as StoreWord, Print as PrintNumber, Enter}
+use Rattle.lq_meaning.specs.World.{World}
 use Rattle.lq_meaning.specs.Ending.{Trap, Unruled, Outcome}
 use Rattle.lq_meaning.specs.Control.{trapped, Run, stop, Flow, GoesOn, Returns, ended}
 use Rattle.lq_meaning.specs.Entry.{start}

@@ -2,8 +2,11 @@
 use Rattle.std.proofs.Common.{◌≡◌, ℕ, zero, suc, ◌*◌, ℤ, pos, negsuc, nat_lt, List, [], ◌∷◌, ◌++◌, Option, None, Some, refl, sym, ap, ◌∙◌, append_assoc}
 use Rattle.std.proofs.lemmas.List.{append-nil}
 use Rattle.std.proofs.lemmas.Bool.{cond_both}
-use Rattle.lq_meaning.specs.Memory.{Address, reach}
-use Rattle.lq_meaning.specs.World.{World, Action, Allocate, Load, Store, Print, Enter, Test, Start, Acted, counted, allocated, take_words, loaded, stored, entered, act}
+use Rattle.lq_meaning.specs.declared.memory.Address.{Address}
+use Rattle.lq_meaning.specs.Memory.{reach}
+use Rattle.lq_meaning.specs.declared.action.Action.{Action}
+use Rattle.lq_meaning.specs.declared.action.Action.TheVariants.{Allocate, Load, Store, Print, Enter, Test, Start}
+use Rattle.lq_meaning.specs.World.{World, Acted, counted, allocated, take_words, loaded, stored, entered, act}
 use Rattle.lq_meaning.proofs.Costs.{left_by}
 
 -- what was printed is a front of what is printed now

@@ -14,7 +14,8 @@ use Rattle.lq_tree.specs.declared.program.Program.{Program}
 use Rattle.lq_tree.specs.Lookup.{function_of}
 use Rattle.lq_tree.specs.Types.{Number, element_of, is_pointer}
 use Rattle.lq_tree.specs.Layout.{fields_of, field_number}
-use Rattle.lq_meaning.specs.World.{World, Allocate, Load as LoadWord, Store as StoreWord, Print as PrintNumber, Enter}
+use Rattle.lq_meaning.specs.declared.action.Action.TheVariants.{Allocate, Load as LoadWord, Store as StoreWord, Print as PrintNumber, Enter}
+use Rattle.lq_meaning.specs.World.{World}
 use Rattle.lq_meaning.specs.Ending.{Trap, Unruled, Outcome}
 use Rattle.lq_meaning.specs.Operators.{negation, truth, truth_of, is_zero, binary}
 use Rattle.lq_meaning.specs.Control.{trapped, Run, stop, Target, Flow, GoesOn, Returns, Statement, ended}

@@ -4,7 +4,8 @@ use Rattle.std.proofs.lemmas.Bool.{cond_both, ltb-true}
 use Rattle.lq_tree.specs.declared.place.Place.{Place}
 use Rattle.lq_tree.specs.declared.expr.Expr.{Expr}
 use Rattle.lq_tree.specs.declared.stmt.StmtKind.{StmtKind, While', For', Row_of-Stmt, Held-StmtKind-If-1}
-use Rattle.lq_meaning.specs.World.{World, Test}
+use Rattle.lq_meaning.specs.declared.action.Action.TheVariants.{Test}
+use Rattle.lq_meaning.specs.World.{World}
 use Rattle.lq_meaning.specs.Ending.{Ending, Spent}
 use Rattle.lq_meaning.specs.Control.{Came, Gives, Stops, Run, give, go_on, ◌⨾◌, due, by_truth, Flow, GoesOn, Returns, Statement, done_with, unless_returned, ◌then_do◌, tested, loop}
 use Rattle.lq_meaning.specs.Meaning.{Context, Locals, condition, without, scoped, exec, exec_row, exec_held}

@@ -6,7 +6,9 @@ use Rattle.lq_tree.specs.declared.place.Place.{Place}
 use Rattle.lq_tree.specs.declared.trap.TrapKind.{TrapKind}
 use Rattle.lq_tree.specs.declared.trap.TrapKind.TheVariants.{Range}
 use Rattle.lq_meaning.specs.Operators.{Computed, Computes, Fails}
-use Rattle.lq_meaning.specs.World.{World, Action, Load, Store, Start, Test, Acted, Answers, Traps, Strays, act}
+use Rattle.lq_meaning.specs.declared.action.Action.{Action}
+use Rattle.lq_meaning.specs.declared.action.Action.TheVariants.{Load, Store, Start, Test}
+use Rattle.lq_meaning.specs.World.{World, Acted, Answers, Traps, Strays, act}
 use Rattle.lq_meaning.specs.Ending.{Trap, Ending, Done, Trapped, Strayed, Spent, Unruled, Outcome}
 
 -- the ending by a trap of this kind at this place

@@ -16,7 +16,7 @@ use Rattle.lq_tree.specs.Lookup.{function_of}
 use Rattle.lq_tree.specs.Types.{Ty, Number, declared, element_of, is_pointer, row_type}
 use Rattle.lq_tree.specs.Locals.{Local, what_of, with_what, variables_of}
 use Rattle.lq_tree.specs.Layout.{fields_of, field_number}
-use Rattle.lq_meaning.specs.World.{Allocate, Print as PrintNumber, Enter}
+use Rattle.lq_meaning.specs.declared.action.Action.TheVariants.{Allocate, Print as PrintNumber, Enter}
 use Rattle.lq_meaning.specs.Ending.{Trap, Unruled, Outcome}
 use Rattle.lq_meaning.specs.Operators.{negation, truth, truth_of, is_zero, binary}
 use Rattle.lq_meaning.specs.Control.{trapped, Run, give, stop, ◌⨾◌, computed, due, by_truth, Target, load, store, Flow, GoesOn, Returns, Statement, done_with, ◌then_do◌, tested, loop, branch, before, joined, each, returned, ended}

@@ -1,5 +1,6 @@
 -- Blocks and addresses (docs/LANGUAGE.md, "Memory"; ISO/IEC 9899:2011, 6.5.6 for pointers and 7.22.3.2 for calloc).
-use Rattle.std.specs.Prelude.{ℕ, zero, suc, ◌+◌, ◌-◌, ◌*◌, ◌/◌, ℤ, pos, negsuc, ◌+ℤ◌, Bool, ◌&&◌, nat_lt, if◌then◌else◌, List, [], ◌∷◌, ◌++◌, length, replicate, slice_index_or, slice_set, Option, None, Some}
+use Rattle.std.specs.Prelude.{ℕ, zero, suc, ◌+◌, ◌-◌, ◌*◌, ◌/◌, ℤ, pos, negsuc, ◌+ℤ◌, Bool, ◌&&◌, nat_lt, if◌then◌else◌, List, [], ◌∷◌, ◌++◌, length, replicate, slice_index_or, slice_set, All, ◌≤◌, ◌^◌, Option, None, Some}
+use Rattle.lq_meaning.specs.declared.memory.Address.{Address}
 use Rattle.lq_meaning.specs.declared.memory.Block.{Block}
 use Rattle.lq_meaning.specs.Word.{block_of, offset_of}
 
@@ -7,15 +8,13 @@ use Rattle.lq_meaning.specs.Word.{block_of, offset_of}
 abbrev pub Blocks : Type 0
 Blocks = List Block
 
+-- each block has so few words that each of its elements has a number below 2^32
+abbrev pub Addressable : Blocks → Type 0
+Addressable blocks = All (λ block. length block.words ≤ 2 ^ 32) blocks
+
 -- how many elements a block has
 abbrev pub elements : Block → ℕ
 elements block = length block.words / block.fields
-
--- a word's address: its block, its element and its field
-pub record Address : Type 0 where
-  pub block : ℕ
-  pub element : ℕ
-  pub field : ℕ
 
 -- the address of these parts
 abbrev pub address : (block element field : ℕ) → Address
@@ -51,7 +50,11 @@ abbrev pub with_word : Blocks → Address → ℤ → Blocks
 with_word blocks a word =
     slice_set blocks (a.block - 1) (record { fields = (block_at blocks a.block).fields; words = slice_set (block_at blocks a.block).words (position blocks a) word })
 
--- one block more, all of whose words are 0
+-- one block more, of so many words that are all 0
+abbrev pub with_zeros : Blocks → (fields words : ℕ) → Blocks
+with_zeros blocks fields words = blocks ++ record { fields = fields; words = replicate words (pos 0) } ∷ []
+
+-- one block more of so many elements, all of whose words are 0
 abbrev pub with_block : Blocks → (fields count : ℕ) → Blocks
 with_block blocks fields count = blocks ++ record { fields = fields; words = replicate (count * fields) (pos 0) } ∷ []
 

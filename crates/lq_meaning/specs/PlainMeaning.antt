@@ -13,7 +13,7 @@ use Rattle.lq_tree.specs.declared.plain.PFunc.{PFunc}
 use Rattle.lq_tree.specs.declared.plain.PProgram.{PProgram}
 use Rattle.lq_meaning.specs.Word.{null}
 use Rattle.lq_tree.specs.Layout.{fields_of}
-use Rattle.lq_meaning.specs.World.{Allocate, Print as PrintNumber, Enter}
+use Rattle.lq_meaning.specs.declared.action.Action.TheVariants.{Allocate, Print as PrintNumber, Enter}
 use Rattle.lq_meaning.specs.Ending.{Trap, Unruled, Outcome}
 use Rattle.lq_meaning.specs.Operators.{Computed, Computes, then_compute, negation, truth, truth_of, is_zero, shifted, arithmetic}
 use Rattle.lq_meaning.specs.Control.{trapped, Run, give, stop, ◌⨾◌, computed, due, by_truth, Target, load, store, Returns, Statement, done_with, ◌then_do◌, tested, loop, branch, before, joined, each, returned, ended}

@@ -2,8 +2,11 @@
 use Rattle.std.specs.Prelude.{ℕ, zero, suc, ◌+◌, ◌-◌, ◌*◌, ℤ, pos, negsuc, nat_lt, if◌then◌else◌, List, [], ◌∷◌, ◌++◌, length, Option, None, Some}
 use Rattle.lq_tree.specs.declared.trap.TrapKind.{TrapKind}
 use Rattle.lq_tree.specs.declared.trap.TrapKind.TheVariants.{Count, Words, Depth}
+use Rattle.lq_meaning.specs.declared.action.Action.{Action}
+use Rattle.lq_meaning.specs.declared.action.Action.TheVariants.{Allocate, Load, Store, Print, Enter, Test, Start}
 use Rattle.lq_meaning.specs.Word.{pointer}
-use Rattle.lq_meaning.specs.Memory.{Blocks, Address, reach, word_at, with_word, with_block}
+use Rattle.lq_meaning.specs.declared.memory.Address.{Address}
+use Rattle.lq_meaning.specs.Memory.{Blocks, reach, word_at, with_word, with_block}
 
 -- the memory, the words that are left for a calloc, the cost so far, and the numbers printed so far
 pub record World : Type 0 where
@@ -11,20 +14,6 @@ pub record World : Type 0 where
   pub left : ℕ
   pub cost : ℕ
   pub printed : List ℤ
-
--- the actions that cost 1 and touch the world
-pub data Action : Type 0 where
-  -- a calloc of so many elements of so many fields
-  Allocate : (count : ℤ) → (fields : ℕ) → Action
-  Load : (pointer index : ℤ) → (field : ℕ) → Action
-  Store : (pointer index : ℤ) → (field : ℕ) → (word : ℤ) → Action
-  Print : (number : ℤ) → Action
-  -- a call, where so many more functions may become active
-  Enter : (more : ℕ) → Action
-  -- the test of a loop
-  Test : Action
-  -- the start of an iteration of a `foreach`
-  Start : Action
 
 -- what comes of an action: a word, a trap or a stray
 pub data Acted : Type 0 where

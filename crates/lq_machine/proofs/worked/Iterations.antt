@@ -14,9 +14,9 @@ use Rattle.lq_meaning.specs.Control.{trapped}
 use Rattle.lq_meaning.proofs.worked.Outcomes.{numbers, memory_block, outcome}
 use Rattle.lq_meaning.proofs.worked.SourceWords.{at, int}
 use Rattle.lq_meaning.proofs.worked.PlainWords.{num, bin, stmt, while, branch, cobegin, named, func, program}
-use Rattle.lq_machine.specs.Task.{Tasks}
-use Rattle.lq_machine.specs.Line.{loop, stop, together}
-use Rattle.lq_machine.specs.Behaviour.{called, iterations, each, beginning}
+use Rattle.lq_meaning.specs.Task.{Tasks}
+use Rattle.lq_meaning.specs.TaskControl.{loop, stop, together}
+use Rattle.lq_meaning.specs.Behaviour.{called, iterations, each, beginning}
 use Rattle.lq_machine.specs.Replay.{replay, replay_log, run_from}
 use Rattle.lq_machine.proofs.worked.Logs.{stores}
 

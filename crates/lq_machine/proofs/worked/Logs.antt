@@ -3,7 +3,7 @@ use Rattle.std.specs.Prelude.{ℕ, suc, Bool, true, false, if◌then◌else◌, 
 use Rattle.lq_tree.specs.declared.place.Place.{Place}
 use Rattle.lq_log.specs.declared.entry.Entry.{Entry}
 use Rattle.lq_log.specs.Race.{races}
-use Rattle.lq_meaning.specs.Memory.{Address}
+use Rattle.lq_meaning.specs.declared.memory.Address.{Address}
 
 abbrev entry : (write : Bool) → (path : List ℕ) → Address → Place → Entry
 entry write path a at = record { path = path; write = write; block = a.block; element = a.element; field = a.field; at = at }

@@ -5,8 +5,8 @@ use Rattle.lq_meaning.specs.Ending.{Outcome, Done}
 use Rattle.lq_meaning.proofs.worked.Outcomes.{numbers, memory_block, outcome}
 use Rattle.lq_machine.proofs.worked.Logs.{racing}
 use Rattle.lq_machine.specs.Replay.{replay, replay_log}
-use Rattle.lq_machine.specs.Line.{loop}
-use Rattle.lq_machine.specs.Behaviour.{called, iterations}
+use Rattle.lq_meaning.specs.TaskControl.{loop}
+use Rattle.lq_meaning.specs.Behaviour.{called, iterations}
 use Rattle.lq_meaning.proofs.worked.plain.Sort.{sort}
 
 -- it sorts

@@ -8,8 +8,8 @@ use Rattle.lq_meaning.proofs.worked.SourceWords.{at}
 use Rattle.lq_meaning.specs.Memory.{address}
 use Rattle.lq_machine.proofs.worked.Logs.{stores, loads, racing}
 use Rattle.lq_machine.specs.Replay.{replay, replay_log}
-use Rattle.lq_machine.specs.Line.{loop}
-use Rattle.lq_machine.specs.Behaviour.{called, iterations}
+use Rattle.lq_meaning.specs.TaskControl.{loop}
+use Rattle.lq_meaning.specs.Behaviour.{called, iterations}
 use Rattle.lq_meaning.proofs.worked.plain.TwoStores.{two_stores}
 
 -- without picks the first block stores first
