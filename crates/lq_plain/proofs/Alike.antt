@@ -5,7 +5,8 @@ use Rattle.lq_tree.specs.declared.place.Place.{Place}
 use Rattle.lq_tree.specs.declared.plain.PKind.{PKind}
 use Rattle.lq_tree.specs.declared.plain.PStmt.{PStmt}
 use Rattle.lq_tree.specs.declared.trap.TrapKind.TheVariants.{Range}
-use Rattle.lq_meaning.specs.World.{World, Start}
+use Rattle.lq_meaning.specs.declared.action.Action.TheVariants.{Start}
+use Rattle.lq_meaning.specs.World.{World}
 use Rattle.lq_meaning.specs.Ending.{Trap, Ending, Trapped, Strayed, Spent, Done as DoneEnding, Unruled}
 use Rattle.lq_meaning.specs.Control.{trapped, Came, Gives, Stops, Run, stop, go_on, ◌⨾◌, due, by_truth, Flow, GoesOn, Returns, Statement, done_with, unless_returned, ◌then_do◌, caught, joined, iterations, iteration_count, each}
 use Rattle.lq_meaning.specs.Meaning.{Context as Source, Locals, without, scoped}

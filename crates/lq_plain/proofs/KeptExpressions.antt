@@ -40,7 +40,7 @@ with_slot-grows : (m : Made) → length m.slots ≤ length (with_slot None int_t
 with_slot-grows m = omega (arith, one_slot None int_type m)
 
 -- a value that is an atom is a slot
-abbrev IsSlot : PExpr → Type 0
+abbrev pub IsSlot : PExpr → Type 0
 IsSlot e = e ≡ InSlot (slot_in e)
 
 abbrev NotNumber : Flat → Type 0
@@ -114,7 +114,7 @@ module _ (c : Source) (call : Place → ℕ → List ℤ → Run ℤ) (result : 
   not_number (Calloc' n count type) m regular points = tt
 
   -- a base is a slot
-  base_slot : {n : _} (row : Row_of-Expr n) (m : Made) → IsRegularPart c.program (variables_of scope) row → is_pointer (row_type c.program (variables_of scope) row) ≡ true → IsSlot (operand_row false env at row m).value
+  pub base_slot : {n : _} (row : Row_of-Expr n) (m : Made) → IsRegularPart c.program (variables_of scope) row → is_pointer (row_type c.program (variables_of scope) row) ≡ true → IsSlot (operand_row false env at row m).value
   base_slot end_of-Expr m regular points = absurd regular
   base_slot (more_of-Expr e rest) m regular points = atom_slot at (type_of env e) (flatten env at e m) (not_number e m regular points)
 

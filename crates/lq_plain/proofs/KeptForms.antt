@@ -10,7 +10,8 @@ use Rattle.lq_tree.specs.declared.plain.PKind.{PKind, Set, If, Call, Calloc}
 use Rattle.lq_tree.specs.declared.plain.PStmt.{PStmt}
 use Rattle.lq_tree.specs.Types.{Ty, is_pointer}
 use Rattle.lq_tree.specs.Layout.{fields_of}
-use Rattle.lq_meaning.specs.World.{World, Allocate}
+use Rattle.lq_meaning.specs.declared.action.Action.TheVariants.{Allocate}
+use Rattle.lq_meaning.specs.World.{World}
 use Rattle.lq_meaning.specs.Operators.{Computed, Computes, Fails, negation, truth, truth_of, is_zero, binary}
 use Rattle.lq_meaning.specs.Control.{Run, give, ◌⨾◌, computed, due, by_truth, Flow, done_with}
 use Rattle.lq_meaning.specs.Meaning.{Context as Source, Locals, Found, names, value as found_value, value_of, operated, dotted as found_dotted}

@@ -12,7 +12,8 @@ use Rattle.lq_tree.specs.declared.program.Program.{Program}
 use Rattle.lq_tree.specs.Lookup.{same, function_of, number_of}
 use Rattle.lq_tree.specs.Types.{Ty, declared, result_of}
 use Rattle.lq_tree.specs.Locals.{Local, variables_of}
-use Rattle.lq_meaning.specs.World.{World, Enter}
+use Rattle.lq_meaning.specs.declared.action.Action.TheVariants.{Enter}
+use Rattle.lq_meaning.specs.World.{World}
 use Rattle.lq_meaning.specs.Ending.{Outcome}
 use Rattle.lq_meaning.specs.Control.{trapped, Came, Gives, Stops, Run, go_on, ◌⨾◌, due, Flow, GoesOn, Returns, Statement, ◌then_do◌, returned, ended}
 use Rattle.lq_meaning.specs.Entry.{start, start_on, arguments, enter}
@@ -72,13 +73,13 @@ module _ (c : Source) (call : Place → ℕ → List ℤ → Run ℤ) (result : 
 
 -- ---- parameters
 
-params_bounded : (n : ℕ) (params : List Param) (scope : List (Local ℕ)) → Bounded scope n → Bounded (scope_from n params scope) (n + length params)
+pub params_bounded : (n : ℕ) (params : List Param) (scope : List (Local ℕ)) → Bounded scope n → Bounded (scope_from n params scope) (n + length params)
 params_bounded n [] scope bounded = bounded_above scope n (n + 0) (omega arith) bounded
 params_bounded n (p ∷ params) scope bounded =
     bounded_above (scope_from (suc n) params (record { name = p.name; type = declared p.ctype; what = n } ∷ scope)) (suc n + length params) (n + suc (length params)) (omega arith)
     (params_bounded (suc n) params (record { name = p.name; type = declared p.ctype; what = n } ∷ scope) (omega arith, bounded))
 
-params_variables : (n : ℕ) (params : List Param) (scope : List (Local ℕ)) → variables_of (scope_from n params scope) ≡ variables_of scope ++ map parameter params
+pub params_variables : (n : ℕ) (params : List Param) (scope : List (Local ℕ)) → variables_of (scope_from n params scope) ≡ variables_of scope ++ map parameter params
 params_variables n [] scope = sym (append-nil (variables_of scope))
 params_variables n (p ∷ params) scope =
     params_variables (suc n) params (record { name = p.name; type = declared p.ctype; what = n } ∷ scope)

@@ -28,7 +28,7 @@ use Rattle.lq_plain.proofs.Alike.{Done, Stays, stays_done, done_on, stays_on, do
 use Rattle.lq_plain.proofs.KeptSteps.{print_stays, return_stays, return_nothing, call_stays, put_word, put_empty, set_stays, declare_done, index_taken, store_stays, if_stays, loop_stays, BranchesAlike, branches_none, branches_more, branch_alike, cobegin_stays, foreach_stays}
 
 -- a row of one
-abbrev IsOne : Count → Type 0
+abbrev pub IsOne : Count → Type 0
 IsOne none_left = ⊥
 IsOne (one_more none_left) = Unit {0}
 IsOne (one_more (one_more n)) = ⊥
@@ -62,7 +62,7 @@ module _ (c : Source) (call : Place → ℕ → List ℤ → Run ℤ) (result : 
   row_scope scope (more_of-Stmt at kind rest) m one =
       ap variables_of (nothing_more (plain (env scope) at kind m).scope rest (plain (env scope) at kind m).made one) ∙ scope_behind at scope kind m
 
-  held_scope : (scope : List (Local ℕ)) (held : Held-StmtKind-If-1) (m : Made) → variables_of (plain_held (env scope) held m).scope ≡ variables_behind_held (variables_of scope) held
+  pub held_scope : (scope : List (Local ℕ)) (held : Held-StmtKind-If-1) (m : Made) → variables_of (plain_held (env scope) held m).scope ≡ variables_behind_held (variables_of scope) held
   held_scope scope None' m = refl
   held_scope scope (Some' p row) m = row_scope scope row m tt
 

@@ -8,7 +8,8 @@ use Rattle.lq_tree.specs.declared.plain.PStmt.{PStmt}
 use Rattle.lq_tree.specs.declared.plain.Slot.{Slot}
 use Rattle.lq_tree.specs.declared.plain.Branch.{Branch}
 use Rattle.lq_tree.specs.Types.{Ty, Number, is_pointer}
-use Rattle.lq_meaning.specs.World.{World, Print as PrintNumber, Test}
+use Rattle.lq_meaning.specs.declared.action.Action.TheVariants.{Print as PrintNumber, Test}
+use Rattle.lq_meaning.specs.World.{World}
 use Rattle.lq_meaning.specs.Ending.{Trap}
 use Rattle.lq_meaning.specs.Operators.{Computes}
 use Rattle.lq_meaning.specs.Control.{Run, give, ◌⨾◌, computed, due, by_truth, Target, load as load_word, store, Flow, Returns, Statement, done_with, ◌then_do◌, tested, loop, caught, branch as caught_run, before, joined, each}

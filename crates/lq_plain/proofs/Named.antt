@@ -30,7 +30,7 @@ typed_parameters [] = tt
 typed_parameters (q ∷ params) = (suits_declared q.ctype, typed_parameters params)
 
 -- a list that has nothing
-nothing_in : {A : Type 0} (xs : List A) → ((x : A) → Contains xs x → ⊥) → xs ≡ []
+pub nothing_in : {A : Type 0} (xs : List A) → ((x : A) → Contains xs x → ⊥) → xs ≡ []
 nothing_in [] none = refl
 nothing_in (x ∷ xs) none = absurd (none x (0, omega arith, refl))
 

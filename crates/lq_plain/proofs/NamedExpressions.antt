@@ -56,7 +56,7 @@ AreKept s ns = flat_map (λ (n : Expr). node_rules s (out-Expr n)) ns ≡ []
 
 -- ---- the literal 0
 
-same_zero : (e : Expr) → is_zero_node e ≡ is_zero e
+pub same_zero : (e : Expr) → is_zero_node e ≡ is_zero e
 unfolding out-Expr denote.Hole.Carrier.out
 same_zero (Num n) = refl
 same_zero (Var name) = refl
@@ -78,7 +78,7 @@ only_items (more_of-Expr d end_of-Expr) e is = cc
 only_boxed : (e : Expr) → only (hidden-the_row-Expr-0 e) ≡ e
 only_boxed e = only_items (hidden-the_row-Expr-0 e) e (items_hidden-the_row-Expr-0 e)
 
-abbrev node_of : Expr → Node
+abbrev pub node_of : Expr → Node
 node_of (Num n) = layer.Num n
 node_of (Var name) = layer.Var name
 node_of (Neg' q a) = layer.Neg (only a)
@@ -107,10 +107,10 @@ node_rolled (layer.Calloc a type) = ap node_of (rolls-Calloc a type) ∙ ap (λ 
 roll_out : (e : Expr) → roll-Expr (out-Expr e) ≡ e
 roll_out e = search (rules, the_lemmas)
 
-out_is : (e : Expr) → out-Expr e ≡ node_of e
+pub out_is : (e : Expr) → out-Expr e ≡ node_of e
 out_is e = sym (node_rolled (out-Expr e)) ∙ ap node_of (roll_out e)
 
-count_items : {n : _} (row : Row_of-Expr n) → count_row row ≡ length (items-the_row-Expr n row)
+pub count_items : {n : _} (row : Row_of-Expr n) → count_row row ≡ length (items-the_row-Expr n row)
 count_items end_of-Expr = refl
 count_items (more_of-Expr e rest) = ap (λ n. suc n) (count_items rest)
 

@@ -125,7 +125,7 @@ arms_in _ = []
 roll_out : (kind : StmtKind) → roll-StmtKind (out-StmtKind kind) ≡ kind
 roll_out kind = search (rules, the_lemmas)
 
-arms_of : (kind : StmtKind) (arms : List Arm) (other : Option Stmt) → out-StmtKind kind ≡ layer.If arms other → arms_in kind ≡ arms
+pub arms_of : (kind : StmtKind) (arms : List Arm) (other : Option Stmt) → out-StmtKind kind ≡ layer.If arms other → arms_in kind ≡ arms
 arms_of kind arms other is = ap arms_in (sym (roll_out kind) ∙ ap roll-StmtKind is ∙ rolls-If arms other) ∙ items_hidden-the_row-Arm-1 arms
 
 -- ---- statements

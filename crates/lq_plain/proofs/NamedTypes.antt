@@ -11,6 +11,7 @@ use Rattle.lq_tree.specs.declared.program.Func.{Func}
 use Rattle.lq_tree.specs.declared.program.Param.{Param}
 use Rattle.lq_tree.specs.declared.program.Program.{Program}
 use Rattle.lq_tree.specs.Types.{Ty, Number, Pointer, Element, Unknown, Variable, declared_as, declared, same, or_later, type_in, is_in_scope, is_number, is_pointer, value, behind, element_of, type_of_field, field_of, dotted, sum_of, combined, result_of, called, is_known, allocated}
+use Rattle.lq_tree.specs.PlainTypes.{is_value}
 use Rattle.lq_names.specs.Rules.{is_nothing, is_struct, is_whole, has_no_fields, lacks_field, miscounts, operator_misfits, are_compared}
 use Rattle.lq_plain.proofs.Regular.{Takes}
 
@@ -19,12 +20,6 @@ abbrev pub suits : Ty → (is_place : Bool) → Bool
 suits (Element name) is_place = is_place
 suits Unknown is_place = false
 suits _ is_place = true
-
--- a number or a pointer
-abbrev pub is_value : Ty → Bool
-is_value Number = true
-is_value (Pointer base stars) = true
-is_value _ = false
 
 -- what suits any expression
 suits_any : (t : Ty) (place : Bool) → suits t false ≡ true → suits t place ≡ true

@@ -17,7 +17,9 @@ use Rattle.lq_tree.specs.declared.program.Program.{Program}
 use Rattle.lq_tree.specs.Lookup.{function_of, same}
 use Rattle.lq_tree.specs.Types.{Variable, Number, is_pointer}
 use Rattle.lq_tree.specs.Layout.{fields_of}
-use Rattle.lq_meaning.specs.World.{World, Action, Acted, Answers, Traps, Strays, act, Allocate, Load as LoadWord, Store as StoreWord, Print as PrintNumber, Enter, Start, Test}
+use Rattle.lq_meaning.specs.declared.action.Action.{Action}
+use Rattle.lq_meaning.specs.declared.action.Action.TheVariants.{Allocate, Load as LoadWord, Store as StoreWord, Print as PrintNumber, Enter, Start, Test}
+use Rattle.lq_meaning.specs.World.{World, Acted, Answers, Traps, Strays, act}
 use Rattle.lq_meaning.specs.Ending.{Trap, Ending, Done, Trapped, Strayed, Spent, Unruled, Outcome}
 use Rattle.lq_meaning.specs.Operators.{Computed, Computes, Fails, negation, truth, truth_of, is_zero, binary}
 use Rattle.lq_meaning.specs.Control.{trapped, Came, Gives, Stops, Run, give, stop, go_on, ◌⨾◌, computed, answered, due, by_truth, Flow, GoesOn, Returns, Statement, unless_returned, done_with, ◌then_do◌, loop, caught, branch, before, joined, iterations, iteration_count, each, returned, ended}

@@ -1,11 +1,14 @@
--- Each store that lexemes spell goes to a place.
-use Rattle.std.proofs.Common.{◌≡◌, ℕ, ℤ, true, List, [], ◌∷◌, ◌++◌, Option, None, Some, IsTrue, All, refl, ap, sym, ◌∙◌, subst}
+-- Each store that lexemes spell goes to a place, and each `cobegin` has two blocks.
+use Rattle.std.proofs.Common.{◌≡◌, ℕ, ◌≤◌, ℤ, Bool, true, List, [], ◌∷◌, ◌++◌, Option, None, Some, IsTrue, All, length, refl, ap, sym, ◌∙◌, subst, arith}
 use denote.Hole.Carrier
+use Rattle.std.specs.Prelude.{nat_le}
 use Rattle.std.specs.List.{AllByRecursion, flat_map}
+use Rattle.std.proofs.lemmas.Bool.{le-leb}
 use Rattle.std.proofs.lemmas.List.Elements.{All-from_recursion}
 use Rattle.lq_tree.specs.declared.expr.Expr.{Expr}
 use Rattle.lq_tree.specs.declared.program.Func.{Func}
 use Rattle.lq_tree.specs.declared.program.Program.{Program}
+use Rattle.lq_tree.specs.declared.program.StructDef.{StructDef}
 use Rattle.lq_tree.specs.declared.stmt.Stmt.{Stmt}
 use Rattle.lq_tree.specs.declared.stmt.Arm.{Arm, Arm', roll-Arm}
 use Rattle.lq_tree.specs.declared.stmt.StmtKind.{StmtKind, Block, If, While, For, Cobegin, Foreach, Block', If', While', For', Cobegin', Foreach', Held-StmtKind-If-1, None', Some', Row_of-Stmt, end_of-Stmt, more_of-Stmt, Row_of-Arm, end_of-Arm, more_of-Arm, items-the_row-Stmt, items-the_row-Arm, items_hidden-the_row-Stmt-0, items_hidden-the_row-Arm-1, items_hidden-the_row-Stmt-2}
@@ -13,13 +16,13 @@ use Rattle.lq_tree.specs.Walk.{inside, within_row, within_arms, within_arm, with
 use Rattle.lq_parser.specs.declared.lexeme.Lexeme.{Lexeme}
 use Rattle.lq_parser.specs.Expressions.{IsPlace, postfix_place, deref_place}
 use Rattle.lq_parser.specs.Statements.{arm_of, IsOptional, none, some, Placed, placed, declaration, IsSimple, set, update, step, store, call, IsPart, declaration_part, simple_part, IsFlat, empty, part, return, print, IsBlock, braces, AreStatements, no_statement, statement, IsBody, block_body, flat_body, IsGuarded, guarded, AreElses, no_else, else_body, else_if, IsStatement, block, flat, if, while, for, cobegin, foreach, IsBranch, branch, AreBranches, no_branch, branches}
-use Rattle.lq_parser.specs.Programs.{IsFunc, func, IsProgram, nothing, with_struct, with_func}
+use Rattle.lq_parser.specs.Programs.{IsFunc, func, IsStruct, struct, IsProgram, nothing, with_struct, with_func}
 use Rattle.lq_plain.specs.Places.{is_place, stores_to_place, StoresToPlaces}
 
 -- ---- the statements inside each form of statement
 
 -- a statement that may be missing, as a list
-abbrev listed : Option Stmt → List Stmt
+abbrev pub listed : Option Stmt → List Stmt
 listed None = []
 listed (Some s) = s ∷ []
 
@@ -73,30 +76,30 @@ unroll (Cobegin' n blocks) = row_items _ blocks
 unroll (Foreach' index low high stride p body) = row_items _ body
 unroll _ = refl
 
-inside_block : (body : List Stmt) → inside (Block body) ≡ statements body
+pub inside_block : (body : List Stmt) → inside (Block body) ≡ statements body
 inside_block body = unroll (Block body) ∙ ap statements (items_hidden-the_row-Stmt-0 body)
 
-inside_cobegin : (blocks : List Stmt) → inside (Cobegin blocks) ≡ statements blocks
+pub inside_cobegin : (blocks : List Stmt) → inside (Cobegin blocks) ≡ statements blocks
 inside_cobegin blocks = unroll (Cobegin blocks) ∙ ap statements (items_hidden-the_row-Stmt-0 blocks)
 
-inside_while : (e : Expr) (body : Stmt) → inside (While e body) ≡ statements (body ∷ [])
+pub inside_while : (e : Expr) (body : Stmt) → inside (While e body) ≡ statements (body ∷ [])
 inside_while e body = unroll (While e body) ∙ ap statements (items_hidden-the_row-Stmt-2 body)
 
-inside_foreach : (index : List ℕ) (low high : Expr) (stride : ℤ) (body : Stmt) → inside (Foreach index low high stride body) ≡ statements (body ∷ [])
+pub inside_foreach : (index : List ℕ) (low high : Expr) (stride : ℤ) (body : Stmt) → inside (Foreach index low high stride body) ≡ statements (body ∷ [])
 inside_foreach index low high stride body = unroll (Foreach index low high stride body) ∙ ap statements (items_hidden-the_row-Stmt-2 body)
 
 rolled_arm : (e : Expr) (body : Stmt) → in_arm (roll-Arm (record { cond = e; body = body })) ≡ statements (body ∷ [])
 unfolding roll-Arm denote.Hole.Carrier.roll
 rolled_arm e body = ap statements (items_hidden-the_row-Stmt-2 body)
 
-inside_arm : (one : Expr × Stmt) → within_arm (arm_of one) ≡ statements (one.1 ∷ [])
+pub inside_arm : (one : Expr × Stmt) → within_arm (arm_of one) ≡ statements (one.1 ∷ [])
 inside_arm one = by_arm (arm_of one) ∙ rolled_arm one.0 one.1
 
-inside_if : (arms : List Arm) (other : Option Stmt) → inside (If arms other) ≡ flat_map within_arm arms ++ statements (listed other)
+pub inside_if : (arms : List Arm) (other : Option Stmt) → inside (If arms other) ≡ flat_map within_arm arms ++ statements (listed other)
 inside_if arms None = unroll (If arms None) ∙ ap (λ all. flat_map within_arm all ++ []) (items_hidden-the_row-Arm-1 arms)
 inside_if arms (Some s) = unroll (If arms (Some s)) ∙ joined_parts (ap (flat_map within_arm) (items_hidden-the_row-Arm-1 arms)) (ap statements (items_hidden-the_row-Stmt-2 s))
 
-inside_for : (first : Option Stmt) (e : Option Expr) (third : Option Stmt) (body : Stmt) → inside (For first e third body) ≡ statements (listed first) ++ statements (listed third) ++ statements (body ∷ [])
+pub inside_for : (first : Option Stmt) (e : Option Expr) (third : Option Stmt) (body : Stmt) → inside (For first e third body) ≡ statements (listed first) ++ statements (listed third) ++ statements (body ∷ [])
 inside_for None e None body = unroll (For None e None body) ∙ ap statements (items_hidden-the_row-Stmt-2 body)
 inside_for None e (Some third) body =
     unroll (For None e (Some third) body) ∙ joined_parts (ap statements (items_hidden-the_row-Stmt-2 third)) (ap statements (items_hidden-the_row-Stmt-2 body))
@@ -106,14 +109,23 @@ inside_for (Some first) e (Some third) body =
     unroll (For (Some first) e (Some third) body)
     ∙ joined_parts (joined_parts (ap statements (items_hidden-the_row-Stmt-2 first)) (ap statements (items_hidden-the_row-Stmt-2 third))) (ap statements (items_hidden-the_row-Stmt-2 body))
 
--- ---- stores that go to places
+-- ---- stores that go to places, and blocks beside each other
+
+-- a `cobegin` has two blocks; all other statements pass
+abbrev pub is_pair : StmtKind → Bool
+is_pair (Cobegin' n blocks) = nat_le 2 (length (items-the_row-Stmt _ blocks))
+is_pair _ = true
+
+-- a statement itself
+abbrev pub Passes : StmtKind → Type 0
+Passes kind = IsTrue (stores_to_place kind) × IsTrue (is_pair kind)
 
 abbrev AreStored : List Stmt → Type 0
-AreStored ss = AllByRecursion (λ (s : Stmt). IsTrue (stores_to_place s.kind)) ss
+AreStored ss = AllByRecursion (λ (s : Stmt). Passes s.kind) ss
 
 -- a statement and those inside it
 abbrev IsStored : StmtKind → Type 0
-IsStored kind = IsTrue (stores_to_place kind) × AreStored (inside kind)
+IsStored kind = Passes kind × AreStored (inside kind)
 
 joined : (a b : List Stmt) → AreStored a → AreStored b → AreStored (a ++ b)
 joined [] b x y = y
@@ -128,29 +140,32 @@ one_stored s h = (h.0, joined (inside s.kind) [] h.1 tt)
 more_stored : (s : Stmt) (rest : List Stmt) → IsStored s.kind → AreStored (statements rest) → AreStored (statements (s ∷ rest))
 more_stored s rest h more = (h.0, joined (inside s.kind) (statements rest) h.1 more)
 
+two_blocks : (first second : Stmt) (more : List Stmt) → is_pair (Cobegin (first ∷ second ∷ more)) ≡ true
+two_blocks first second more = ap (λ (ss : List Stmt). nat_le 2 (length ss)) (items_hidden-the_row-Stmt-0 (first ∷ second ∷ more)) ∙ le-leb 2 (length (first ∷ second ∷ more)) (omega arith)
+
 place_is : {ls : List Lexeme} {e : Expr} → IsPlace ls e → is_place e ≡ true
 place_is (postfix_place x is) = is
 place_is (deref_place x) = refl
 
 simple_stored : {ls : List Lexeme} {kind : StmtKind} → IsSimple ls kind → IsStored kind
 unfolding inside
-simple_stored (set x) = (refl, tt)
-simple_stored (update is x) = (refl, tt)
-simple_stored (step is) = (refl, tt)
-simple_stored (store at x y) = (place_is x, tt)
-simple_stored (call closing x) = (refl, tt)
+simple_stored (set x) = ((refl, refl), tt)
+simple_stored (update is x) = ((refl, refl), tt)
+simple_stored (step is) = ((refl, refl), tt)
+simple_stored (store at x y) = ((place_is x, refl), tt)
+simple_stored (call closing x) = ((refl, refl), tt)
 
 part_stored : {ls : List Lexeme} {kind : StmtKind} → IsPart ls kind → IsStored kind
 unfolding inside
-part_stored (declaration_part (declaration at x y)) = (refl, tt)
+part_stored (declaration_part (declaration at x y)) = ((refl, refl), tt)
 part_stored (simple_part x) = simple_stored x
 
 flat_stored : {ls : List Lexeme} {kind : StmtKind} → IsFlat ls kind → IsStored kind
 unfolding inside
-flat_stored empty = (refl, tt)
+flat_stored empty = ((refl, refl), tt)
 flat_stored (part end x) = part_stored x
-flat_stored (return end x) = (refl, tt)
-flat_stored (print closing end x) = (refl, tt)
+flat_stored (return end x) = ((refl, refl), tt)
+flat_stored (print closing end x) = ((refl, refl), tt)
 
 first_stored : {ls : List Lexeme} {s : Option Stmt} → IsOptional (Placed IsPart) ls s → AreStored (statements (listed s))
 first_stored none = tt
@@ -169,7 +184,7 @@ mutual
   statements_stored (statement {l = l} {kind = kind} {more = more} x y) = more_stored (record { at = l.at; kind = kind }) more (statement_stored x) (statements_stored y)
 
   body_stored : {ls : List Lexeme} {s : Stmt} → IsBody ls s → IsStored s.kind
-  body_stored (block_body {statements = body} x) = (refl, by (inside_block body) (block_stored x))
+  body_stored (block_body {statements = body} x) = ((refl, refl), by (inside_block body) (block_stored x))
   body_stored (flat_body x) = flat_stored x
 
   guarded_stored : {ls : List Lexeme} {one : Expr × Stmt} → IsGuarded ls one → AreStored (statements (one.1 ∷ []))
@@ -183,23 +198,23 @@ mutual
       (joined (within_arm (arm_of one)) (flat_map within_arm more) (by (inside_arm one) (guarded_stored x)) rest.0, rest.1)
 
   statement_stored : {ls : List Lexeme} {kind : StmtKind} → IsStatement ls kind → IsStored kind
-  statement_stored (block {statements = body} x) = (refl, by (inside_block body) (block_stored x))
+  statement_stored (block {statements = body} x) = ((refl, refl), by (inside_block body) (block_stored x))
   statement_stored (flat x) = flat_stored x
   statement_stored (if {one = one} {more = more} {last = last} x y) =
       let rest = elses_stored y in
       let arms = joined (within_arm (arm_of one)) (flat_map within_arm more) (by (inside_arm one) (guarded_stored x)) rest.0 in
-      (refl, by (inside_if (arm_of one ∷ more) last) (joined (flat_map within_arm (arm_of one ∷ more)) (statements (listed last)) arms rest.1))
-  statement_stored (while {one = one} x) = (refl, by (inside_while one.0 one.1) (guarded_stored x))
+      ((refl, refl), by (inside_if (arm_of one ∷ more) last) (joined (flat_map within_arm (arm_of one ∷ more)) (statements (listed last)) arms rest.1))
+  statement_stored (while {one = one} x) = ((refl, refl), by (inside_while one.0 one.1) (guarded_stored x))
   statement_stored (for end end' closing {initial = initial} {step = third} {cond = cond} {body = body} x y z w) =
       let heads = joined (statements (listed initial)) (statements (listed third)) (first_stored x) (third_stored z) in
-      (refl, by (inside_for initial cond third body) (joined (statements (listed initial) ++ statements (listed third)) (statements (body ∷ [])) heads (one_stored body (body_stored w))))
+      ((refl, refl), by (inside_for initial cond third body) (joined (statements (listed initial) ++ statements (listed third)) (statements (body ∷ [])) heads (one_stored body (body_stored w))))
   statement_stored (cobegin closing {first = first} {second = second} {more = more} x y z) =
-      (refl, by (inside_cobegin (first ∷ second ∷ more)) (more_stored first (second ∷ more) (branch_stored x) (more_stored second more (branch_stored y) (branches_stored z))))
+      ((refl, two_blocks first second more), by (inside_cobegin (first ∷ second ∷ more)) (more_stored first (second ∷ more) (branch_stored x) (more_stored second more (branch_stored y) (branches_stored z))))
   statement_stored (foreach comma' closing {text = text} {low = low} {high = high} {step = stride} {body = body} x y z w) =
-      (refl, by (inside_foreach text low high stride body) (one_stored body (branch_stored w)))
+      ((refl, refl), by (inside_foreach text low high stride body) (one_stored body (branch_stored w)))
 
   branch_stored : {ls : List Lexeme} {s : Stmt} → IsBranch ls s → IsStored s.kind
-  branch_stored (branch {statements = body} x) = (refl, by (inside_block body) (block_stored x))
+  branch_stored (branch {statements = body} x) = ((refl, refl), by (inside_block body) (block_stored x))
 
   branches_stored : {ls : List Lexeme} {blocks : List Stmt} → AreBranches ls blocks → AreStored (statements blocks)
   branches_stored no_branch = tt
@@ -208,10 +223,29 @@ mutual
 func_stored : {ls : List Lexeme} {f : Func} → IsFunc ls f → AreStored (statements f.body)
 func_stored (func at opening closing x y z) = block_stored z
 
-funcs_stored : {ls : List Lexeme} {p : Program} → IsProgram ls p → AllByRecursion (λ (f : Func). All (λ (s : Stmt). IsTrue (stores_to_place s.kind)) (statements f.body)) p.funcs
-funcs_stored nothing = tt
-funcs_stored (with_struct x y) = funcs_stored y
-funcs_stored (with_func {one = one} x y) = (All-from_recursion (λ (s : Stmt). IsTrue (stores_to_place s.kind)) (statements one.body) (func_stored x), funcs_stored y)
+-- what each statement of a program, at any depth, passes
+pub funcs_pass : {ls : List Lexeme} {p : Program} → IsProgram ls p → AllByRecursion (λ (f : Func). AllByRecursion (λ (s : Stmt). Passes s.kind) (statements f.body)) p.funcs
+funcs_pass nothing = tt
+funcs_pass (with_struct x y) = funcs_pass y
+funcs_pass (with_func x y) = (func_stored x, funcs_pass y)
+
+stored_alone : (ss : List Stmt) → AreStored ss → AllByRecursion (λ (s : Stmt). IsTrue (stores_to_place s.kind)) ss
+stored_alone [] h = tt
+stored_alone (s ∷ ss) h = ((h.0).0, stored_alone ss h.1)
+
+all_stored : (funcs : List Func) → AllByRecursion (λ (f : Func). AreStored (statements f.body)) funcs → AllByRecursion (λ (f : Func). All (λ (s : Stmt). IsTrue (stores_to_place s.kind)) (statements f.body)) funcs
+all_stored [] h = tt
+all_stored (f ∷ funcs) h = (All-from_recursion (λ (s : Stmt). IsTrue (stores_to_place s.kind)) (statements f.body) (stored_alone (statements f.body) h.0), all_stored funcs h.1)
 
 pub stores_to_places : {ls : List Lexeme} {p : Program} → IsProgram ls p → StoresToPlaces p
-stores_to_places {p = p} x = All-from_recursion (λ (f : Func). All (λ (s : Stmt). IsTrue (stores_to_place s.kind)) (statements f.body)) p.funcs (funcs_stored x)
+stores_to_places {p = p} x = All-from_recursion (λ (f : Func). All (λ (s : Stmt). IsTrue (stores_to_place s.kind)) (statements f.body)) p.funcs (all_stored p.funcs (funcs_pass x))
+
+-- ---- structs with a field
+
+fields_some : {ls : List Lexeme} {d : StructDef} → IsStruct ls d → 1 ≤ length d.fields
+fields_some (struct closing end x) = omega arith
+
+pub structs_some : {ls : List Lexeme} {p : Program} → IsProgram ls p → AllByRecursion (λ (d : StructDef). 1 ≤ length d.fields) p.structs
+structs_some nothing = tt
+structs_some (with_struct x y) = (fields_some x, structs_some y)
+structs_some (with_func x y) = structs_some y

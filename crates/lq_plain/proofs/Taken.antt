@@ -9,7 +9,7 @@ use Rattle.lq_tree.specs.declared.plain.PKind.{PKind, Set, Calloc, Call}
 use Rattle.lq_tree.specs.declared.plain.PStmt.{PStmt}
 use Rattle.lq_tree.specs.Types.{Ty, Number}
 use Rattle.lq_tree.specs.Layout.{fields_of}
-use Rattle.lq_meaning.specs.World.{Allocate}
+use Rattle.lq_meaning.specs.declared.action.Action.TheVariants.{Allocate}
 use Rattle.lq_meaning.specs.Ending.{Unruled}
 use Rattle.lq_meaning.specs.Control.{Came, Gives, Stops, Run, stop, go_on, ◌⨾◌, due, load as load_word, done_with}
 use Rattle.lq_meaning.specs.Meaning.{Context as Source, Locals, Found, names, value as found_value, value_of, target as target_at}

@@ -6,3 +6,4 @@ pub mod Lines
 pub mod Factors
 pub mod Edges
 pub mod Through
+pub mod Formed

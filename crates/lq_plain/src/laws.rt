@@ -1,10 +1,15 @@
 //! What follows from the definitions alone: each law is the contract of a function that does nothing.
 
-ghost use Rattle.std.specs.Prelude.{◌≡◌, ◌≢◌, List, ℕ, ℤ, map};
+ghost use Rattle.std.specs.Prelude.{◌≡◌, ◌≢◌, ◌≤◌, List, ℕ, ℤ, None, length, map};
 ghost use Rattle.lq_tree.specs.declared.program.Program.{Program};
 ghost use Rattle.lq_tree.specs.declared.program.Func.{Func};
 ghost use Rattle.lq_tree.specs.declared.plain.PFunc.{PFunc};
+ghost use Rattle.lq_tree.specs.declared.limit.Quantity.TheVariants.{SourceBytes};
+ghost use Rattle.lq_tree.specs.Limit.{row_of};
+ghost use Rattle.lq_tree.specs.Formed.{IsFormed};
 ghost use Rattle.lq_lexer.specs.declared.token.Token.{Token};
+ghost use Rattle.lq_lexer.specs.Tokens.{Tokens};
+ghost use Rattle.lq_lexer.specs.Shape.{IsShapely};
 ghost use Rattle.lq_parser.specs.Spelling.{Spells};
 ghost use Rattle.lq_meaning.specs.Ending.{Unruled};
 ghost use Rattle.lq_meaning.specs.Meaning.{sequential};
@@ -12,6 +17,7 @@ ghost use Rattle.lq_meaning.specs.PlainMeaning.{sequential as plain_sequential};
 ghost use Rattle.lq_plain.specs.Plain.{plain_program};
 ghost use Rattle.lq_names.specs.declared.fault.Fault.{Fault};
 ghost use Rattle.lq_names.specs.Broken.{IsBroken};
+ghost use Rattle.lq_names.specs.Counts.{counts, first_passed};
 ghost use Rattle.lq_plain.specs.Places.{StoresToPlaces};
 
 /// The plain form has the structs of its source, and the functions in their order, by name.
@@ -37,4 +43,11 @@ pub fn meanings_have_rules()
 /// In a tree that tokens spell each store goes to a place.
 pub fn stores_go_to_places()
     ensures { (text : List ℕ) (tokens : List Token) (p : Program) → Spells text tokens p → StoresToPlaces p }
+{}
+
+/// The plain form of a source that tokens of a text within its limits spell, which keeps its counts and breaks no name rule,
+/// is formed (docs/LANGUAGE.md, "What holds of a plain program").
+pub fn plain_is_formed()
+    ensures { (text : List ℕ) (tokens : List Token) (p : Program) → Tokens text tokens → length text ≤ (row_of SourceBytes).allowed → IsShapely text tokens → Spells text tokens p
+        → first_passed (counts p) ≡ None → ((fault : Fault) → IsBroken p fault → ⊥) → IsFormed (plain_program p) }
 {}

@@ -21,5 +21,7 @@ mod statements;
 mod tests;
 mod values;
 
-pub use laws::{functions_stay, meaning_stays, meanings_have_rules, stores_go_to_places};
+pub use laws::{
+    functions_stay, meaning_stays, meanings_have_rules, plain_is_formed, stores_go_to_places,
+};
 pub use program::plain;
