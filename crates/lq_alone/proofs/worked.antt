@@ -4,3 +4,4 @@ pub mod CleanRuns
 pub mod AsInOrder
 pub mod Accesses
 pub mod Limits
+pub mod Slices

@@ -3,11 +3,14 @@
 use Rattle.std.specs.Prelude.{ℕ, ◌+◌, ◌-◌, ◌==◌, ℤ, Bool, true, false, not, ◌&&◌, ◌||◌, nat_lt, List, [], ◌∷◌, ◌++◌, sum_by, slice_get, Option, None, Some}
 use Rattle.std.specs.List.{list_any, list_all, flat_map, filter_map}
 use Rattle.std.specs.Option.{is_some}
-use Rattle.lq_meaning.specs.Memory.{Blocks, Address, reach, with_word}
-use Rattle.lq_meaning.specs.World.{World, Action, Load, Store, act}
+use Rattle.lq_meaning.specs.declared.memory.Address.{Address}
+use Rattle.lq_meaning.specs.Memory.{Blocks, reach, with_word}
+use Rattle.lq_meaning.specs.declared.action.Action.{Action}
+use Rattle.lq_meaning.specs.declared.action.Action.TheVariants.{Load, Store}
+use Rattle.lq_meaning.specs.World.{World, act}
 use Rattle.lq_meaning.specs.Ending.{Ending, Trapped, Strayed, Spent, Unruled}
 use Rattle.lq_meaning.specs.Control.{Came, Gives, Stops, go_on, Run, answered}
-use Rattle.lq_machine.specs.Task.{Task, Ended, Due, Fork, Tasks, none, more}
+use Rattle.lq_meaning.specs.Task.{Task, Ended, Due, Fork, Tasks, none, more}
 
 -- an access: an address, and the word that is written there, if it is a store
 pub record Access : Type 0 where

@@ -3,8 +3,8 @@ use Rattle.std.specs.Prelude.{ℕ, ◌^◌, ◌≤◌, ℤ, Bool, true, false, n
 use Rattle.lq_tree.specs.declared.plain.PProgram.{PProgram}
 use Rattle.lq_meaning.specs.World.{World}
 use Rattle.lq_meaning.specs.Ending.{Ending, Strayed}
-use Rattle.lq_machine.specs.Task.{Task}
-use Rattle.lq_machine.specs.Behaviour.{Beginning, beginning}
+use Rattle.lq_meaning.specs.Task.{Task}
+use Rattle.lq_meaning.specs.Behaviour.{Beginning, beginning}
 use Rattle.lq_alone.specs.Alone.{Alone, alone}
 
 abbrev pub is_stray : Ending → Bool

@@ -11,8 +11,8 @@ use Rattle.lq_meaning.proofs.worked.Outcomes.{numbers, memory_block}
 use Rattle.lq_meaning.proofs.worked.SourceWords.{at, int}
 use Rattle.lq_meaning.proofs.worked.PlainWords.{num, stmt, while, branch, cobegin, named, func, program}
 use Rattle.lq_meaning.specs.Memory.{address}
-use Rattle.lq_machine.specs.Line.{loop}
-use Rattle.lq_machine.specs.Behaviour.{called, iterations}
+use Rattle.lq_meaning.specs.TaskControl.{loop}
+use Rattle.lq_meaning.specs.Behaviour.{called, iterations}
 use Rattle.lq_alone.proofs.worked.AloneWords.{run_alone, reads, writes}
 use Rattle.lq_alone.specs.Alone.{Access}
 use Rattle.lq_meaning.proofs.worked.plain.Squares.{squares}

@@ -1,9 +1,9 @@
 -- Short words for branches alone.
 use Rattle.std.specs.Prelude.{ℕ, ℤ, Bool, List, None, Some}
 use Rattle.lq_tree.specs.declared.plain.PProgram.{PProgram}
-use Rattle.lq_meaning.specs.Memory.{Address}
+use Rattle.lq_meaning.specs.declared.memory.Address.{Address}
 use Rattle.lq_meaning.specs.Ending.{Outcome}
-use Rattle.lq_machine.specs.Behaviour.{Beginning, beginning}
+use Rattle.lq_meaning.specs.Behaviour.{Beginning, beginning}
 use Rattle.lq_alone.specs.Alone.{Access, Alone, alone}
 use Rattle.lq_alone.specs.Clean.{clean_from}
 

@@ -2,8 +2,8 @@
 use Rattle.std.proofs.Common.{◌≡◌, refl}
 use Rattle.std.specs.Prelude.{pos, negsuc, [], ◌∷◌}
 use Rattle.lq_meaning.proofs.worked.Outcomes.{numbers}
-use Rattle.lq_machine.specs.Line.{loop}
-use Rattle.lq_machine.specs.Behaviour.{called, iterations}
+use Rattle.lq_meaning.specs.TaskControl.{loop}
+use Rattle.lq_meaning.specs.Behaviour.{called, iterations}
 use Rattle.lq_alone.proofs.worked.AloneWords.{alone_outcome}
 use Rattle.lq_meaning.proofs.worked.sources.Squares.{done_outcome as squares_done, spent_outcome as squares_spent}
 use Rattle.lq_meaning.proofs.worked.sources.Halves.{five_outcome as halves_five, three_outcome as halves_three, one_outcome as halves_one, overlapping_outcome as overlap_overlapping}

@@ -9,8 +9,8 @@ use Rattle.lq_tree.specs.declared.plain.PProgram.{PProgram}
 use Rattle.lq_meaning.proofs.worked.Outcomes.{numbers}
 use Rattle.lq_meaning.proofs.worked.SourceWords.{int}
 use Rattle.lq_meaning.proofs.worked.PlainWords.{num, bin, stmt, while, branch, cobegin, named, unnamed, func, program}
-use Rattle.lq_machine.specs.Line.{loop}
-use Rattle.lq_machine.specs.Behaviour.{called, iterations}
+use Rattle.lq_meaning.specs.TaskControl.{loop}
+use Rattle.lq_meaning.specs.Behaviour.{called, iterations}
 use Rattle.lq_alone.proofs.worked.AloneWords.{is_clean}
 use Rattle.lq_meaning.proofs.worked.plain.TwoStores.{two_stores, nested_stores}
 use Rattle.lq_meaning.proofs.worked.plain.Squares.{squares}

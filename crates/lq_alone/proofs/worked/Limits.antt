@@ -8,8 +8,8 @@ use Rattle.lq_meaning.proofs.worked.Outcomes.{numbers, memory_block, outcome}
 use Rattle.lq_meaning.proofs.worked.SourceWords.{at, int, struct, struct_at, param}
 use Rattle.lq_meaning.proofs.worked.PlainWords.{num, stmt, branch, cobegin, named, func, program}
 use Rattle.lq_meaning.proofs.worked.plain.TwoStores.{two_stores}
-use Rattle.lq_machine.specs.Line.{loop}
-use Rattle.lq_machine.specs.Behaviour.{called, iterations}
+use Rattle.lq_meaning.specs.TaskControl.{loop}
+use Rattle.lq_meaning.specs.Behaviour.{called, iterations}
 use Rattle.lq_alone.proofs.worked.AloneWords.{run_alone, alone_outcome, is_clean}
 
 -- with just the fuel of both branches the fork is passed, and the load behind it is due
