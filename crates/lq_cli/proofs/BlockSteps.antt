@@ -3,11 +3,14 @@ use Rattle.std.proofs.Common.{◌≡◌, ℕ, ◌%◌, ◌<◌, ℤ, pos, Bool, 
 use Rattle.std.specs.Prelude.{All}
 use Rattle.std.proofs.lemmas.Bool.Decides.{nat_tests}
 use Rattle.std.proofs.lemmas.List.Elements.{All-head, All-tail}
-use Rattle.lq_meaning.specs.World.{World, Action, Store as StoreWord, Answers, act}
+use Rattle.lq_meaning.specs.declared.action.Action.{Action}
+use Rattle.lq_meaning.specs.declared.action.Action.TheVariants.{Store as StoreWord}
+use Rattle.lq_meaning.specs.World.{World, Answers, act}
 use Rattle.lq_meaning.specs.Ending.{Done, Outcome}
 use Rattle.lq_cli.specs.declared.slice.Store.{Store}
 use Rattle.lq_log.specs.declared.entry.Entry.{Entry}
-use Rattle.lq_machine.specs.Task.{Spot, Task, Ended, Due, Fork, none, more, runnable, forked, step, Moves, moved, logged, resumed}
+use Rattle.lq_meaning.specs.Task.{Spot, Task, Ended, Due, Fork, none, more, forked}
+use Rattle.lq_machine.specs.Step.{runnable, step, Moves, moved, logged, resumed}
 use Rattle.lq_machine.specs.Run.{first_pick}
 use Rattle.lq_machine.proofs.Runs.{leaf_of}
 use Rattle.lq_cli.specs.Run.{spot, stores_then, blocks_then}

@@ -7,7 +7,9 @@ use Rattle.lq_tree.specs.declared.expr.Expr.{Num, Var}
 use Rattle.lq_tree.specs.declared.stmt.StmtKind.{Print}
 use Rattle.lq_tree.specs.declared.stmt.Stmt.{Stmt}
 use Rattle.lq_tree.specs.Types.{declared}
-use Rattle.lq_meaning.specs.World.{World, Action, Allocate, Load, Store as StoreWord, Print as PrintNumber}
+use Rattle.lq_meaning.specs.declared.action.Action.{Action}
+use Rattle.lq_meaning.specs.declared.action.Action.TheVariants.{Allocate, Load, Store as StoreWord, Print as PrintNumber}
+use Rattle.lq_meaning.specs.World.{World}
 use Rattle.lq_meaning.specs.Ending.{Trap, Ending, Done, Trapped, Outcome}
 use Rattle.lq_meaning.specs.Control.{trapped, Came, Gives, Stops, go_on, Run, give, ◌⨾◌, due, load, store, Flow, done_with, unless_returned, caught, branch, before, joined, returned, ended as ended_by}
 use Rattle.lq_meaning.specs.Entry.{start}
@@ -17,7 +19,7 @@ use Rattle.lq_cli.specs.declared.slice.Store.{Store as Stored}
 use Rattle.lq_cli.specs.declared.slice.Step.{Step}
 use Rattle.lq_cli.specs.declared.slice.Step.TheVariants.{Store as StoreStep, Print as PrintStep}
 use Rattle.lq_cli.specs.declared.slice.Slice.{Slice}
-use Rattle.lq_machine.specs.Task.{Task, Ended, Due, none, more, forked}
+use Rattle.lq_meaning.specs.Task.{Task, Ended, Due, none, more, forked}
 use Rattle.lq_machine.proofs.Leaves.{here, first, later, inside_forked}
 use Rattle.lq_machine.proofs.Runs.{ends}
 use Rattle.lq_machine.proofs.Follows.{Follows, ended_follows, due_follows}

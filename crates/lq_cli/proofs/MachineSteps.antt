@@ -2,10 +2,11 @@
 use Rattle.std.proofs.Common.{◌≡◌, ℕ, ◌+◌, ◌<◌, ℤ, pos, List, ◌∷◌, length, drop, get_or, refl, sym, ap, ◌∙◌, add-one, arith}
 use Rattle.std.proofs.Math.Seq.{drop-cons}
 use Rattle.lq_meaning.specs.Memory.{address, with_word}
-use Rattle.lq_meaning.specs.World.{World, Store as StoreWord, Answers, act, stored, counted}
+use Rattle.lq_meaning.specs.declared.action.Action.TheVariants.{Store as StoreWord}
+use Rattle.lq_meaning.specs.World.{World, Answers, act, stored, counted}
 use Rattle.lq_cli.specs.declared.slice.Store.{Store}
 use Rattle.lq_cli.specs.declared.machine.Machine.{Machine}
-use Rattle.lq_machine.specs.Task.{Task}
+use Rattle.lq_meaning.specs.Task.{Task}
 use Rattle.lq_cli.specs.Run.{spot, stores_then}
 use Rattle.lq_cli.specs.Machine.{IsArray, array, array_len, world_of, rest_of_run, spent, after_store}
 use Rattle.lq_cli.proofs.ArrayWords.{reach_in_array}

@@ -1,9 +1,11 @@
 -- How the rest of a run goes on by one action.
 use Rattle.std.proofs.Common.{◌≡◌, ℕ, zero, suc, ◌+◌, ◌-◌, ◌<◌, ℤ, List, [], ◌∷◌, drop, sym, ap, ◌∙◌, arith, zero-add}
 use Rattle.std.proofs.Math.Seq.{drop-nil}
-use Rattle.lq_meaning.specs.World.{World, Action, Answers, act}
+use Rattle.lq_meaning.specs.declared.action.Action.{Action}
+use Rattle.lq_meaning.specs.World.{World, Answers, act}
 use Rattle.lq_log.specs.declared.entry.Entry.{Entry}
-use Rattle.lq_machine.specs.Task.{Spot, Task, Due, runnable, step, Moves, logged, resumed}
+use Rattle.lq_meaning.specs.Task.{Spot, Task, Due}
+use Rattle.lq_machine.specs.Step.{runnable, step, Moves, logged, resumed}
 use Rattle.lq_machine.specs.Run.{first_pick, other_picks, run}
 use Rattle.lq_machine.proofs.Runs.{outcome_behind, leaf_of, run-step, run-spent}
 use Rattle.lq_cli.specs.Machine.{rest_of_run, spent}

@@ -5,7 +5,9 @@ use Rattle.std.proofs.lemmas.List.Elements.{All-head, All-tail, All-weaker}
 use Rattle.std.proofs.lemmas.List.{length-replicate}
 use Rattle.std.proofs.Math.Nat.{mul-one}
 use Rattle.std.proofs.lemmas.Bool.{cond_both}
-use Rattle.lq_meaning.specs.World.{World, Action, Allocate, Load, Store as StoreWord, Print as PrintNumber, counted, act}
+use Rattle.lq_meaning.specs.declared.action.Action.{Action}
+use Rattle.lq_meaning.specs.declared.action.Action.TheVariants.{Allocate, Load, Store as StoreWord, Print as PrintNumber}
+use Rattle.lq_meaning.specs.World.{World, counted, act}
 use Rattle.lq_meaning.specs.Ending.{Done}
 use Rattle.lq_meaning.specs.Entry.{start}
 use Rattle.lq_meaning.proofs.Apart.{Apart, Apart-sym}
@@ -13,7 +15,8 @@ use Rattle.lq_cli.specs.declared.slice.Store.{Store as Stored}
 use Rattle.lq_cli.specs.declared.slice.Step.{Step}
 use Rattle.lq_cli.specs.declared.slice.Step.TheVariants.{Store as StoreStep, Print as PrintStep}
 use Rattle.lq_cli.specs.declared.slice.Slice.{Slice}
-use Rattle.lq_machine.specs.Task.{Spot, Task, Ended, Due, Fork, Tasks, none, more, runnable, all_runnable, all_ended, forked, moved, logged, resumed}
+use Rattle.lq_meaning.specs.Task.{Spot, Task, Ended, Due, Fork, Tasks, none, more, all_ended, forked}
+use Rattle.lq_machine.specs.Step.{runnable, all_runnable, moved, logged, resumed}
 use Rattle.lq_cli.specs.Run.{spot, stores_then, steps_then, blocks_then, task_of}
 use Rattle.lq_cli.specs.Literal.{step_index, IsAccepted}
 use Rattle.lq_machine.proofs.Leaves.{Leaf, here, inside, LeafIn, first, later, Leaf-number, LeafIn-number}

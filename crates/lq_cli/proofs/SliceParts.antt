@@ -5,11 +5,11 @@ use Rattle.lq_tree.specs.declared.stmt.Stmt.{Stmt}
 use Rattle.lq_cli.specs.Slicing.{Lacks}
 
 -- the first of some statements, and the others
-abbrev first_or : Stmt → List Stmt → Stmt
+abbrev pub first_or : Stmt → List Stmt → Stmt
 first_or other [] = other
 first_or other (s ∷ ss) = s
 
-abbrev others : List Stmt → List Stmt
+abbrev pub others : List Stmt → List Stmt
 others [] = []
 others (s ∷ ss) = ss
 

@@ -13,7 +13,8 @@ use Rattle.lq_shelf.proofs.Pieces.{AppendsPrefix-more}
 use Rattle.lq_tree.specs.declared.trap.TrapKind.TheVariants.{Words}
 use Rattle.lq_meaning.specs.End.{Tells, IsOfRun, IsSinkFault}
 use Rattle.lq_meaning.specs.Memory.{with_block}
-use Rattle.lq_meaning.specs.World.{World, Allocate, Answers, Traps, act, counted, take_words}
+use Rattle.lq_meaning.specs.declared.action.Action.TheVariants.{Allocate}
+use Rattle.lq_meaning.specs.World.{World, Answers, Traps, act, counted, take_words}
 use Rattle.lq_meaning.specs.Ending.{Outcome, Done, Trapped, Spent}
 use Rattle.lq_meaning.specs.Entry.{start}
 use Rattle.lq_cli.specs.declared.machine.Machine.{Machine}
@@ -22,13 +23,14 @@ use Rattle.lq_cli.specs.declared.slice.Step.{Step}
 use Rattle.lq_cli.specs.declared.slice.Step.TheVariants.{Store as StoreStep, Print as PrintStep}
 use Rattle.lq_cli.specs.declared.slice.Slice.{Slice}
 use Rattle.lq_cli.specs.Literal.{step_index}
-use Rattle.lq_machine.specs.Task.{Ended, resumed}
+use Rattle.lq_meaning.specs.Task.{Ended}
+use Rattle.lq_machine.specs.Step.{resumed}
 use Rattle.lq_machine.specs.Run.{run, other_picks}
 use Rattle.lq_machine.proofs.Runs.{outcome_behind, run-step, run-ended}
 use Rattle.lq_machine.proofs.Printed.{run_adds}
 use Rattle.lq_cli.specs.Run.{spot, run_slice, task_of, stores_then, blocks_then, steps_then}
 use Rattle.lq_cli.specs.Machine.{IsArray, array, array_len, world_of, rest_of_run, spent, behind_calloc, RunsOn, GoesOn, StepWithin, end_of}
-use Rattle.lq_cli.specs.Lines.{number_lines}
+use Rattle.lq_meaning.specs.Printed.{number_lines}
 use Rattle.lq_cli.proofs.Rests.{due_goes_on}
 use Rattle.lq_cli.proofs.StepSteps.{number_lines-append}
 

@@ -4,16 +4,17 @@ use Rattle.std.specs.Bool.{OnTrue}
 use Rattle.lq_shelf.specs.declared.sink.Put.{Put}
 use Rattle.std.proofs.Common.{Bool, true, false, Result, Ok, Err, ◌≡◌, ℕ, ◌+◌, ◌<◌, ◌≤◌, ℤ, pos, List, [], ◌∷◌, ◌++◌, length, drop, get_or, refl, sym, ap, ◌∙◌, subst, ⊎_elim, arith, append_assoc}
 use Rattle.lq_meaning.specs.Memory.{address, with_word}
-use Rattle.lq_meaning.specs.World.{World, Load, Store as StoreWord, Print as PrintNumber, Answers, act, loaded, counted}
+use Rattle.lq_meaning.specs.declared.action.Action.TheVariants.{Load, Store as StoreWord, Print as PrintNumber}
+use Rattle.lq_meaning.specs.World.{World, Answers, act, loaded, counted}
 use Rattle.lq_tree.specs.declared.place.Place.{Place}
 use Rattle.lq_cli.specs.declared.machine.Machine.{Machine}
 use Rattle.lq_cli.specs.declared.slice.Store.{Store}
 use Rattle.lq_cli.specs.declared.slice.Step.{Step}
 use Rattle.lq_cli.specs.declared.slice.Step.TheVariants.{Store as StoreStep, Print as PrintStep}
-use Rattle.lq_machine.specs.Task.{Task, Due}
+use Rattle.lq_meaning.specs.Task.{Task, Due}
 use Rattle.lq_cli.specs.Run.{spot, steps_then}
 use Rattle.lq_cli.specs.Machine.{IsArray, array, array_len, element, world_of, rest_of_run, spent, after_store, step_then, printed_by, after_print, IsSpentAt}
-use Rattle.lq_cli.specs.Lines.{number_line, number_lines}
+use Rattle.lq_meaning.specs.Printed.{number_line, number_lines}
 use Rattle.lq_cli.proofs.ArrayWords.{reach_in_array}
 use Rattle.lq_cli.proofs.Rests.{due_goes_on, spent_ends}
 use Rattle.lq_cli.proofs.MachineSteps.{drop_is, store_acts, world_after}

@@ -1,4 +1,4 @@
--- Why a text is no source of the slice, as it is told.
+-- Why a text is no source, as it is told.
 use Rattle.std.proofs.Common.{◌≡◌, ◌≢◌, ℕ, ◌<◌, ◌≤◌, List, [], ◌∷◌, ◌++◌, length, take, true, false, Result, Ok, Err, Some, sym, ap, ◌∙◌, subst, ⊎_elim, arith}
 use Rattle.std.specs.Prelude.{codes, All, IfNone, IsOk, MatchResult, ⊤, Option, None}
 use Rattle.std.proofs.lemmas.Bool.{cases_lt}
@@ -6,6 +6,7 @@ use Rattle.std.proofs.lemmas.List.{length-append}
 use Rattle.std.proofs.Math.Seq.{get_or-append_seam}
 use Rattle.lq_tree.specs.declared.place.Place.{Place}
 use Rattle.lq_tree.specs.declared.limit.Limit.{Limit}
+use Rattle.lq_tree.specs.declared.limit.Quantity.TheVariants.{SourceBytes}
 use Rattle.lq_tree.specs.Place.{place_text, line_of, column_of}
 use Rattle.lq_lexer.specs.declared.token.Token.{Token}
 use Rattle.lq_lexer.specs.Tokens.{Tokens}
@@ -14,30 +15,29 @@ use Rattle.lq_lexer.specs.Shape.{texts_of, most_open, longest_stretch, IsShapely
 use Rattle.lq_parser.specs.Source.{place_at}
 use Rattle.lq_parser.specs.Spelling.{HasNoAnnotation, IsFirstAnnotation, IsFaultPlace, byte_of}
 use Rattle.lq_cli.specs.Lines.{line, limit}
-use Rattle.std.specs.Option.{ok_or}
-use Rattle.lq_cli.specs.declared.answer.Answer.TheVariants.{Outside}
-use Rattle.lq_cli.specs.declared.ready.Stop.TheVariants.{Told}
-use Rattle.lq_cli.specs.Ready.{OnTold, TellsText}
 use Rattle.lq_tree.specs.declared.program.Program.{Program}
 use Rattle.lq_names.specs.Counts.{counts, first_passed, answer}
-use Rattle.lq_cli.specs.declared.slice.Slice.{Slice}
-use Rattle.lq_cli.specs.Parentheses.{all_follow}
-use Rattle.lq_cli.specs.Source.{program}
-use Rattle.lq_cli.specs.Text.{Shaped, HasTree, Reads, TextAnswers, lexical, brackets, stretch, annotation, syntax, count, outside}
+use Rattle.lq_cli.specs.Seen.{Seen}
+use Rattle.lq_cli.specs.Files.{IsFile}
+use Rattle.lq_cli.specs.Text.{Shaped, HasTree, SourceAnswers, lexical, brackets, stretch, annotation, syntax, count}
+
+-- a text is answered so, by whatever name it was fetched
+abbrev pub TextAnswers : (text : List ℕ) → ℕ → List ℕ → Type 0
+TextAnswers text status bytes = (name : List ℕ) (s : Seen) → IsFile s.held SourceBytes name text → SourceAnswers name s status bytes
 
 module _ (text : List ℕ) (at : ℕ) (p : Place) (in_line : p.line ≡ line_of (take at text)) (in_column : p.col ≡ column_of (take at text)) where
   place_is : place_at text at ≡ p
   place_is = sym (λ j. record { line = in_line j; col = in_column j })
 
   pub lexical_told : IsFirstFault text at → TextAnswers text 3 (line (codes "lexical fault at " ++ place_text p))
-  lexical_told fault = subst (λ (q : Place). TextAnswers text 3 (line (codes "lexical fault at " ++ place_text q))) place_is (lexical at fault)
+  lexical_told fault = subst (λ (q : Place). TextAnswers text 3 (line (codes "lexical fault at " ++ place_text q))) place_is (λ name s file. lexical text at file fault)
 
   module _ (tokens : List Token) (shaped : Shaped text tokens) where
     pub annotation_told : IsFirstAnnotation tokens at → TextAnswers text 4 (line (codes "annotation at " ++ place_text p))
-    annotation_told first = subst (λ (q : Place). TextAnswers text 4 (line (codes "annotation at " ++ place_text q))) place_is (annotation tokens at shaped first)
+    annotation_told first = subst (λ (q : Place). TextAnswers text 4 (line (codes "annotation at " ++ place_text q))) place_is (λ name s file. annotation text tokens at file shaped first)
 
     pub syntax_told : HasNoAnnotation tokens → IsFaultPlace text tokens at → TextAnswers text 3 (line (codes "syntax fault near " ++ place_text p))
-    syntax_told none fault = subst (λ (q : Place). TextAnswers text 3 (line (codes "syntax fault near " ++ place_text q))) place_is (syntax tokens at shaped none fault)
+    syntax_told none fault = subst (λ (q : Place). TextAnswers text 3 (line (codes "syntax fault near " ++ place_text q))) place_is (λ name s file. syntax text tokens at file shaped none fault)
 
 abbrev Lies : List ℕ → Token → Type 0
 Lies text token = (token.start < token.end) × (token.end ≤ length text)
@@ -79,10 +79,10 @@ pub shape_passed : {T : Type 0} (text : List ℕ) (tokens : List Token) (r : Res
     → r ≡ Err l → Passed text l
 shape_passed {T = T} text tokens r l lexed ok many long is =
     ⊎_elim
-    (λ more. subst (Passed text) (ap (err_or l) (sym (many more) ∙ is)) (brackets tokens lexed more))
+    (λ more. subst (Passed text) (ap (err_or l) (sym (many more) ∙ is)) (λ name s file. brackets text tokens file lexed more))
     (λ few.
     ⊎_elim
-    (λ longer. subst (Passed text) (ap (err_or l) (sym (long few longer) ∙ is)) (stretch tokens lexed few longer))
+    (λ longer. subst (Passed text) (ap (err_or l) (sym (long few longer) ∙ is)) (λ name s file. stretch text tokens file lexed few longer))
     (λ short. absurd (never (subst IsOk is (ok (record { brackets = few; stretch = short })))))
     (cases_lt 512 (longest_stretch (texts_of text tokens))))
     (cases_lt 64 (most_open (texts_of text tokens)))
@@ -94,17 +94,4 @@ passed_of (Some m) r l due is = ap (λ (q : Result (Unit {0}) Limit). Some (err_
 
 pub count_told : (text : List ℕ) (tree : Program) (r : Result (Unit {0}) Limit) (l : Limit) → HasTree text tree
     → r ≡ answer (first_passed (counts tree)) → r ≡ Err l → Passed text l
-count_told text tree r l has due is = count tree l has (passed_of (first_passed (counts tree)) r l due is)
-
--- a text that reads and yet is outside the slice
-module _ (text : List ℕ) (tree : Program) (reads : Reads text tree) where
-  pub parentheses_told : (tokens : List Token) → Tokens text tokens → ((one : List ℕ) (ts others : List Token) → Tokens one ts → Tokens one others → ts ≡ others)
-      → all_follow [] (texts_of text tokens) ≡ false → TextAnswers text 3 (line (codes "outside the slice"))
-  parentheses_told tokens lexed alone fails =
-      outside tree reads (λ name s of.
-      never (sym fails ∙ ap (λ (ts : List Token). all_follow [] (texts_of text ts)) (alone text tokens of.parentheses.tokens lexed of.parentheses.are) ∙ of.parentheses.stand))
-
-  pub no_slice_told : (found : Option Slice) → IfNone found ((name : List ℕ) (s : Slice) → tree ≢ program name s)
-      → MatchResult (ok_or found (Told Outside)) (λ slice. ⊤) (λ stop. OnTold stop (TellsText text))
-  no_slice_told None none = outside tree reads (λ name s of. none name s of.is)
-  no_slice_told (Some s) none = tt
+count_told text tree r l has due is = λ name s file. count text tree l file has (passed_of (first_passed (counts tree)) r l due is)

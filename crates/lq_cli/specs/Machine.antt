@@ -2,7 +2,8 @@
 use Rattle.std.specs.Prelude.{◌≡◌, ◌⊎◌, ℕ, ◌+◌, ◌-◌, ◌%◌, ◌<◌, ◌==◌, if◌then◌else◌, ℤ, pos, List, [], ◌∷◌, ◌++◌, length, drop, Option, None, Some, Bool, true, false, Result, Ok, Err, IfOk}
 use Rattle.lq_meaning.specs.Word.{pointer}
 use Rattle.lq_meaning.specs.Memory.{Blocks, address, word_at, with_word}
-use Rattle.lq_meaning.specs.World.{World, Load, Store as StoreWord, Print as PrintNumber}
+use Rattle.lq_meaning.specs.declared.action.Action.TheVariants.{Load, Store as StoreWord, Print as PrintNumber}
+use Rattle.lq_meaning.specs.World.{World}
 use Rattle.lq_meaning.specs.Ending.{Outcome, Done, Spent}
 use Rattle.lq_cli.specs.declared.slice.Store.{Store}
 use Rattle.lq_cli.specs.declared.slice.Step.{Step}
@@ -12,9 +13,9 @@ use Rattle.lq_meaning.specs.declared.end.End.{End}
 use Rattle.lq_meaning.specs.declared.end.End.TheVariants.{Done as DoneEnd, Fuel as FuelEnd, SinkFault, NoMemory as NoMemoryEnd}
 use Rattle.lq_shelf.specs.declared.sink.Put.TheVariants.{Failed, NoMemory}
 use Rattle.lq_cli.specs.declared.slice.Slice.{Slice}
-use Rattle.lq_machine.specs.Task.{Task, Ended, Due}
+use Rattle.lq_meaning.specs.Task.{Task, Ended, Due}
 use Rattle.lq_machine.specs.Run.{run}
-use Rattle.lq_cli.specs.Lines.{number_lines}
+use Rattle.lq_meaning.specs.Printed.{number_lines}
 use Rattle.lq_cli.specs.Run.{spot, stores_then, blocks_then, steps_then}
 use Rattle.lq_shelf.specs.declared.sink.Put.{Put}
 use Rattle.lq_shelf.specs.Sink.{Appends, AppendsPrefix}

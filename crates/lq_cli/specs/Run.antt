@@ -1,10 +1,10 @@
 -- The run of a slice under a list of picks (docs/LANGUAGE.md, "Task tree" and "Steps and picks").
 use Rattle.std.specs.Prelude.{ℕ, ℤ, pos, List, [], ◌∷◌}
 use Rattle.lq_tree.specs.declared.place.Place.{Place}
-use Rattle.lq_meaning.specs.World.{Allocate, Load, Store as StoreWord, Print as PrintNumber}
+use Rattle.lq_meaning.specs.declared.action.Action.TheVariants.{Allocate, Load, Store as StoreWord, Print as PrintNumber}
 use Rattle.lq_meaning.specs.Ending.{Done, Outcome}
 use Rattle.lq_meaning.specs.Entry.{start}
-use Rattle.lq_machine.specs.Task.{Spot, Task, Ended, Due, none, more, forked}
+use Rattle.lq_meaning.specs.Task.{Spot, Task, Ended, Due, none, more, forked}
 use Rattle.lq_machine.specs.Run.{run}
 use Rattle.lq_cli.specs.declared.slice.Store.{Store}
 use Rattle.lq_cli.specs.declared.slice.Step.{Step}

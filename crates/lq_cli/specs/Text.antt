@@ -1,11 +1,12 @@
--- The trees that sources have, which sources are of the slice, and the answers to those that are not
--- (docs/COMMANDS.md, "Replay today").
+-- The source of a command: the tree that its text reads as, and the answers where there is none
+-- (docs/COMMANDS.md, "The source").
 use Rattle.std.specs.Prelude.{◌≡◌, ℕ, ◌<◌, ◌≤◌, None, Some, List, ◌++◌, codes, decimal}
 use Rattle.lq_tree.specs.declared.program.Program.{Program}
 use Rattle.lq_tree.specs.declared.limit.Limit.{Limit}
-use Rattle.lq_tree.specs.declared.limit.Quantity.TheVariants.{Brackets, Stretch}
+use Rattle.lq_tree.specs.declared.limit.Quantity.TheVariants.{SourceBytes, Brackets, Stretch}
 use Rattle.lq_tree.specs.Limit.{passed}
 use Rattle.lq_tree.specs.Place.{place_text}
+use Rattle.lq_shelf.specs.Shelf.{Holding}
 use Rattle.lq_lexer.specs.declared.token.Token.{Token}
 use Rattle.lq_lexer.specs.Tokens.{Tokens}
 use Rattle.lq_lexer.specs.Faults.{IsFirstFault}
@@ -15,10 +16,9 @@ use Rattle.lq_parser.specs.Spelling.{Spells, HasNoAnnotation, IsFirstAnnotation,
 use Rattle.lq_names.specs.declared.fault.Fault.{Fault}
 use Rattle.lq_names.specs.Counts.{counts, first_passed}
 use Rattle.lq_names.specs.Broken.{IsBroken, IsLeastBroken}
-use Rattle.lq_cli.specs.declared.slice.Slice.{Slice}
 use Rattle.lq_cli.specs.Lines.{most, line, limit}
-use Rattle.lq_cli.specs.Source.{program}
-use Rattle.lq_cli.specs.Parentheses.{HasSliceParentheses}
+use Rattle.lq_cli.specs.Seen.{Seen}
+use Rattle.lq_cli.specs.Files.{IsFile, FileAnswers}
 
 -- the tokens of a text, which keep the limits of their shape
 pub record Shaped (text : List ℕ) (tokens : List Token) : Type 0 where
@@ -45,25 +45,34 @@ pub record Reads (text : List ℕ) (tree : Program) : Type 0 where
   pub counted : IsCounted tree
   pub named : IsNamed tree
 
--- a text with this tree is a source of the slice: the tree is that of a slice over an array of this name, and the parentheses stand as in the slice
-pub record IsOfSlice (text : List ℕ) (tree : Program) (name : List ℕ) (s : Slice) : Type 0 where
-  pub is : tree ≡ program name s
-  pub parentheses : HasSliceParentheses text
+-- the source of this name reads as this tree
+pub record IsSource (held : List ℕ → Holding) (name : List ℕ) (tree : Program) : Type 0 where
+  pub text : List ℕ
+  pub file : IsFile held SourceBytes name text
+  pub reads : Reads text tree
 
--- the answers to a text that is no source of the slice
-pub data TextAnswers (text : List ℕ) : ℕ → List ℕ → Type 0 where
-  lexical : (at : ℕ) → IsFirstFault text at → TextAnswers text 3 (line (codes "lexical fault at " ++ place_text (place_at text at)))
-  brackets : (tokens : List Token) → Tokens text tokens → most Brackets < most_open (texts_of text tokens) →
-      TextAnswers text 7 (limit (passed Brackets (most_open (texts_of text tokens))))
-  stretch : (tokens : List Token) → Tokens text tokens → most_open (texts_of text tokens) ≤ most Brackets → most Stretch < longest_stretch (texts_of text tokens) →
-      TextAnswers text 7 (limit (passed Stretch (longest_stretch (texts_of text tokens))))
-  annotation : (tokens : List Token) (at : ℕ) → Shaped text tokens → IsFirstAnnotation tokens at →
-      TextAnswers text 4 (line (codes "annotation at " ++ place_text (place_at text at)))
-  syntax : (tokens : List Token) (at : ℕ) → Shaped text tokens → HasNoAnnotation tokens → IsFaultPlace text tokens at →
-      TextAnswers text 3 (line (codes "syntax fault near " ++ place_text (place_at text at)))
-  count : (tree : Program) (l : Limit) → HasTree text tree → first_passed (counts tree) ≡ Some l →
-      TextAnswers text 7 (limit l)
-  names : (tree : Program) (fault : Fault) → HasTree text tree → IsCounted tree → IsLeastBroken tree fault →
-      TextAnswers text 4 (line (codes "names N" ++ decimal fault.rule ++ codes " at " ++ place_text fault.at))
-  outside : (tree : Program) → Reads text tree → ((name : List ℕ) (s : Slice) → ¬ IsOfSlice text tree name s) →
-      TextAnswers text 3 (line (codes "outside the slice"))
+-- the answers where there is no such source
+pub data SourceAnswers (name : List ℕ) (s : Seen) : ℕ → List ℕ → Type 0 where
+  -- there is no such file
+  file : {status : ℕ} {bytes : List ℕ} → FileAnswers SourceBytes name s status bytes → SourceAnswers name s status bytes
+  -- it has no tokens
+  lexical : (text : List ℕ) (at : ℕ) → IsFile s.held SourceBytes name text → IsFirstFault text at →
+      SourceAnswers name s 3 (line (codes "lexical fault at " ++ place_text (place_at text at)))
+  -- more brackets are open at once
+  brackets : (text : List ℕ) (tokens : List Token) → IsFile s.held SourceBytes name text → Tokens text tokens → most Brackets < most_open (texts_of text tokens) →
+      SourceAnswers name s 7 (limit (passed Brackets (most_open (texts_of text tokens))))
+  -- a stretch is longer
+  stretch : (text : List ℕ) (tokens : List Token) → IsFile s.held SourceBytes name text → Tokens text tokens → most_open (texts_of text tokens) ≤ most Brackets →
+      most Stretch < longest_stretch (texts_of text tokens) → SourceAnswers name s 7 (limit (passed Stretch (longest_stretch (texts_of text tokens))))
+  -- a word of an annotation is a token
+  annotation : (text : List ℕ) (tokens : List Token) (at : ℕ) → IsFile s.held SourceBytes name text → Shaped text tokens → IsFirstAnnotation tokens at →
+      SourceAnswers name s 4 (line (codes "annotation at " ++ place_text (place_at text at)))
+  -- the tokens spell no tree
+  syntax : (text : List ℕ) (tokens : List Token) (at : ℕ) → IsFile s.held SourceBytes name text → Shaped text tokens → HasNoAnnotation tokens →
+      IsFaultPlace text tokens at → SourceAnswers name s 3 (line (codes "syntax fault near " ++ place_text (place_at text at)))
+  -- a count of the tree passes its limit
+  count : (text : List ℕ) (tree : Program) (l : Limit) → IsFile s.held SourceBytes name text → HasTree text tree → first_passed (counts tree) ≡ Some l →
+      SourceAnswers name s 7 (limit l)
+  -- a name rule is broken
+  names : (text : List ℕ) (tree : Program) (fault : Fault) → IsFile s.held SourceBytes name text → HasTree text tree → IsCounted tree → IsLeastBroken tree fault →
+      SourceAnswers name s 4 (line (codes "names N" ++ decimal fault.rule ++ codes " at " ++ place_text fault.at))

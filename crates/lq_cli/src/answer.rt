@@ -1,8 +1,9 @@
 ghost use Rattle.std.specs.Prelude.{◌≡◌};
 ghost use Rattle.lq_shelf.specs.Faults.{Rose};
 ghost use Rattle.lq_shelf.specs.Sink.{Appends, AppendsPrefix};
-ghost use Rattle.lq_cli.specs.Answer.{IsLost, lost_of};
+ghost use Rattle.lq_cli.specs.Answer.{lost_of};
 
+use crate::numbers::NumbersFile;
 use lq_shelf::{Put, Sink};
 use lq_tree::{Limit, Place, Quantity, TrapKind};
 use std::alloc::Global;
@@ -31,12 +32,14 @@ pub enum Answer<'a> {
     Names(u8, Place),
     /// The source is not in the slice.
     Outside,
-    /// The number, from 1, of the first bad line.
-    BadPickLine(u64),
+    /// The number, from 1, of the first bad line of a file of numbers.
+    BadLine(NumbersFile, u64),
     /// Where the check of literals fails first.
     Literal(Place),
     /// The run trapped.
     Trap(TrapKind, Place),
+    /// The run left a block.
+    Stray(Place),
     /// The run is out of fuel.
     Fuel,
 }
@@ -63,17 +66,20 @@ impl fmt::Display for Answer<'_> {
             Answer::Syntax(at) => writeln!(f, "syntax fault near {at}"),
             Answer::Names(rule, at) => writeln!(f, "names N{rule} at {at}"),
             Answer::Outside => writeln!(f, "outside the slice"),
-            Answer::BadPickLine(line) => writeln!(f, "bad pick line {line}"),
+            Answer::BadLine(kind, line) => writeln!(f, "bad {} line {line}", kind.word()),
             Answer::Literal(at) => writeln!(f, "refused literal at {at}"),
             Answer::Trap(kind, at) => writeln!(f, "trap {kind} at {at}"),
+            Answer::Stray(at) => writeln!(f, "stray at {at}"),
             Answer::Fuel => writeln!(f, "out of fuel"),
         }
     }
 }
 
 impl Answer<'_> {
-    ghost use Rattle.std.specs.Prelude.{◌≡◌, ◌≢◌, ◌⊎◌, OnOk, IsErrOf};
-    ghost use Rattle.lq_cli.specs.Answer.{status_of, line_of};
+    ghost use Rattle.std.specs.Prelude.{◌≡◌, OnOk, IsErrOf};
+    ghost use Rattle.lq_cli.specs.Answer.{status_of, line_of, LineAnswers};
+    ghost use Rattle.lq_cli.specs.Answered.{Told};
+    ghost use Rattle.lq_cli.specs.Seen.{sink_state};
 
     /// The status that goes with the line.
     fn status(&self) -> u8
@@ -85,9 +91,10 @@ impl Answer<'_> {
             Answer::Limit(_) => 7,
             Answer::Lexical(_) | Answer::Syntax(_) | Answer::Outside => 3,
             Answer::Annotation(_) | Answer::Names(..) => 4,
-            Answer::BadPickLine(_) => 6,
+            Answer::BadLine(..) => 6,
             Answer::Literal(_) => 2,
             Answer::Trap(..) => 1,
+            Answer::Stray(_) => 13,
             Answer::Fuel => 8,
         }
     }
@@ -105,10 +112,7 @@ impl Answer<'_> {
 
     /// Writes the line, and gives the status: that of the answer where all was written.
     pub fn tell<K: Sink>(&self, alloc: Global, out: &mut K) -> u8
-        ensures told { IsLost result ⊎ ((result ≡ status_of self.now) × Appends (K.written out.old) (K.written out.new) (line_of self.now)) }
-        ensures prefix { AppendsPrefix (K.written out.old) (K.written out.new) (line_of self.now) }
-        ensures failed { result ≡ 10 → Rose (K.faults out.old) (K.faults out.new) }
-        ensures other { result ≢ 10 → K.faults out.new ≡ K.faults out.old }
+        ensures { Told (LineAnswers self.now) (sink_state K.written K.faults out.old) (sink_state K.written K.faults out.new) result }
     {
         match self.put(alloc, out) {
             Ok(()) => self.status(),

@@ -2,20 +2,24 @@
 #![tactic(auto)]
 
 mod answer;
-mod command;
+mod commands;
+mod end;
 mod entry;
+mod files;
 mod laws;
 mod literal;
 mod machine;
+mod numbers;
 mod parentheses;
-mod ready;
 mod run;
 mod slice;
 mod slicing;
+mod stop;
 #[cfg(test)]
 mod tests;
 mod text;
+mod words;
 
 pub use entry::liquid;
-pub use laws::picks_do_not_matter;
+pub use laws::{one_answer, picks_do_not_matter};
 pub use slice::{Block, Slice, Step, Store};

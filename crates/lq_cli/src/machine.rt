@@ -4,7 +4,7 @@ ghost use Rattle.lq_shelf.specs.Faults.{Rose};
 ghost use Rattle.lq_shelf.specs.Sink.{Appends, AppendsPrefix};
 ghost use Rattle.lq_machine.specs.Run.{first_pick};
 ghost use Rattle.lq_cli.specs.Machine.{taken};
-ghost use Rattle.lq_cli.specs.Lines.{number_line, number_lines};
+ghost use Rattle.lq_meaning.specs.Printed.{number_line, number_lines};
 
 use crate::slice::{Slice, Step, Store};
 use lq_meaning::Memory;
@@ -81,7 +81,7 @@ pub struct Machine {
 impl Machine {
     ghost use Rattle.lq_meaning.specs.Memory.{address, with_word};
     ghost use Rattle.lq_cli.specs.Run.{stores_then, blocks_then};
-    ghost use Rattle.lq_machine.specs.Task.{Task};
+    ghost use Rattle.lq_meaning.specs.Task.{Task};
     ghost use Rattle.lq_cli.specs.Machine.{IsArray, array, array_len, world_of, rest_of_run, spent, after_store, element, IsSpentAt, printed_by, after_print, StepWithin, step_then, GoesOn, RunsOn, Writes};
     ghost use Rattle.lq_cli.specs.Literal.{IsAccepted};
 

@@ -6,7 +6,7 @@ ghost use Rattle.lq_meaning.specs.End.{Tells, IsOfRun, IsSinkFault};
 ghost use Rattle.lq_cli.specs.Literal.{IsAccepted};
 ghost use Rattle.lq_cli.specs.Run.{run_slice};
 ghost use Rattle.lq_cli.specs.Machine.{end_of};
-ghost use Rattle.lq_cli.specs.Lines.{number_lines};
+ghost use Rattle.lq_meaning.specs.Printed.{number_lines};
 
 use crate::machine::{Machine, Schedule};
 use crate::slice::Slice;

@@ -5,6 +5,27 @@ use std::alloc::{AllocError, Global};
 mod limits;
 mod names;
 mod replays;
+mod sequences;
+
+// The status of a call with these words, on these files, of which some fetches fail.
+fn call(
+    alloc: Global,
+    words: &[&str],
+    files: &[(&str, &[u8])],
+    failing: &[u64],
+    out: &mut MemSink,
+) -> Result<u8, AllocError> {
+    let mut held = Vec::new(alloc);
+    for (name, text) in files {
+        held.push((String::from_str(alloc, name)?, text.to_vec(alloc)?))?;
+    }
+    let mut shelf = MemShelf::new(alloc, held, failing.to_vec(alloc)?);
+    let mut asked = Vec::new(alloc);
+    for word in words {
+        asked.push(String::from_str(alloc, word)?)?;
+    }
+    Ok(liquid(alloc, &asked, &mut shelf, out, &OpenGate))
+}
 
 // What a call is asked to replay, and the fetches of its files that fail.
 #[derive(Clone, Copy)]
@@ -27,16 +48,9 @@ fn ample(source: &[u8]) -> Asked<'_> {
     }
 }
 
-// The status of a call.
+// The status of a replay.
 fn status_of(alloc: Global, asked: &Asked<'_>, out: &mut MemSink) -> Result<u8, AllocError> {
-    let mut files = Vec::new(alloc);
-    for (name, text) in [("s.c", asked.source), ("s.picks", asked.picks)] {
-        files.push((String::from_str(alloc, name)?, text.to_vec(alloc)?))?;
-    }
-    let mut shelf = MemShelf::new(alloc, files, asked.failing.to_vec(alloc)?);
-    let mut words = Vec::new(alloc);
-    for word in ["replay", "s.c", "none", "s.picks", asked.fuel, asked.words] {
-        words.push(String::from_str(alloc, word)?)?;
-    }
-    Ok(liquid(alloc, &words, &mut shelf, out, &OpenGate))
+    let words = ["replay", "s.c", "none", "s.picks", asked.fuel, asked.words];
+    let files = [("s.c", asked.source), ("s.picks", asked.picks)];
+    call(alloc, &words, &files, asked.failing, out)
 }

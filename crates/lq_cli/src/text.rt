@@ -2,19 +2,20 @@ ghost use Rattle.std.specs.Prelude.{◌≡◌, ◌≤◌, ⊤, length, IfOk, Mat
 ghost use Rattle.lq_lexer.specs.Tokens.{Tokens};
 ghost use Rattle.lq_tree.specs.declared.limit.Quantity.TheVariants.{SourceBytes};
 ghost use Rattle.lq_cli.specs.Lines.{most};
-ghost use Rattle.lq_cli.specs.Ready.{HasSlice, OnTold, TellsText};
-ghost use Rattle.lq_cli.specs.Text.{Shaped, HasTree, IsCounted, IsNamed, Reads};
+ghost use Rattle.lq_cli.specs.Readers.{TellsText, IsRead};
+ghost use Rattle.lq_cli.specs.Seen.{shelf_state};
+ghost use Rattle.lq_cli.specs.Stop.{OnTold, Reading};
+ghost use Rattle.lq_cli.specs.Text.{Shaped, HasTree, IsCounted, IsNamed, Reads, SourceAnswers};
 
 use crate::answer::Answer;
-use crate::parentheses::stand_as_in_slice;
-use crate::ready::Stop;
-use crate::slice::Slice;
-use crate::slicing::slice_of;
-use lq_lexer::laws::{tokens_are_one, tokens_lie_in_text};
+use crate::files::fetch;
+use crate::stop::Stop;
+use lq_lexer::laws::tokens_lie_in_text;
 use lq_lexer::{LexFault, Token, check_shape, lex};
 use lq_names::{NamesFault, check_counts, check_names};
 use lq_parser::{ParseFault, parse};
-use lq_tree::{Program, place_of};
+use lq_shelf::Shelf;
+use lq_tree::{Program, Quantity, place_of};
 use std::alloc::Global;
 
 // The tokens of a text.
@@ -120,35 +121,36 @@ fn read_tree<'a>(alloc: Global, text: &[u8], tokens: &[Token]) -> Result<Program
     }
 }
 
-// The slice of a text with these tokens and this tree.
-fn slice_within<'a>(
-    alloc: Global,
-    text: &[u8],
-    tokens: &[Token],
-    tree: &Program,
-) -> Result<Slice, Stop<'a>>
-    requires tokens { Tokens text.now tokens.now }
-    requires tree { Reads text.now tree.now }
-    ensures slice { IfOk result (HasSlice text.now) }
-    ensures told { MatchResult result (λ _. ⊤) (λ stop. OnTold stop (TellsText text.now)) }
-{
-    // So the parentheses of these tokens are those of the text.
-    tokens_are_one();
-    if !stand_as_in_slice(text, tokens) {
-        return Err(Stop::Told(Answer::Outside));
-    }
-    let slice = slice_of(alloc, tree)?;
-    slice.ok_or(Stop::Told(Answer::Outside))
-}
-
-/// The slice whose source a text is (docs/LANGUAGE.md, "The slice"), or why it is none: it has no tree, its tree
-/// breaks a limit of counts or a name rule, or it is outside the slice.
-pub fn read_slice<'a>(alloc: Global, text: &[u8]) -> Result<Slice, Stop<'a>>
+// The tokens of a text and the tree that they spell, or why there are none.
+fn read_text<'a>(alloc: Global, text: &[u8]) -> Result<(Vec<Token>, Program), Stop<'a>>
     requires { length text.now ≤ most SourceBytes }
-    ensures slice { IfOk result (HasSlice text.now) }
+    ensures tokens { IfOk result (λ read. Tokens text.now read.0.items) }
+    ensures tree { IfOk result (λ read. Reads text.now read.1) }
     ensures told { MatchResult result (λ _. ⊤) (λ stop. OnTold stop (TellsText text.now)) }
 {
     let tokens = read_tokens(alloc, text)?;
     let tree = read_tree(alloc, text, &tokens)?;
-    slice_within(alloc, text, &tokens, &tree)
+    Ok((tokens, tree))
+}
+
+/// A source that was read: its text, the tokens of this, and the tree that they spell.
+#[derive(Drop)]
+pub struct Source {
+    pub text: Vec<u8>,
+    pub tokens: Vec<Token>,
+    pub tree: Program,
+}
+
+/// The source of this name, within its limits and with its names in order (docs/COMMANDS.md, "The source").
+pub fn fetch_source<'a, H: Shelf>(
+    alloc: Global,
+    shelf: &mut H,
+    name: &'a str,
+) -> Result<Source, Stop<'a>>
+    ensures { Reading (IsRead (H.holding shelf.old) name.now) (SourceAnswers name.now)
+        (shelf_state H.holding H.faults H.failed_name shelf.old) (shelf_state H.holding H.faults H.failed_name shelf.new) result }
+{
+    let text = fetch(shelf, name, Quantity::SourceBytes)?;
+    let (tokens, tree) = read_text(alloc, &text)?;
+    Ok(Source { text, tokens, tree })
 }

@@ -1,4 +1,4 @@
-use super::{Asked, ample, status_of};
+use super::{Asked, ample, call, status_of};
 use lq_shelf::MemSink;
 use std::alloc::{AllocError, Global};
 use std::test::Fail;
@@ -122,6 +122,35 @@ fn tells_the_limit_of_pick_bytes(rt: HostRuntime) -> Result<(), Fail> {
     assert_eq!(rt;
         written.as_slice(),
         b"limit pick bytes 33554433 33554432\n".as_slice()
+    );
+    Ok(())
+}
+
+// What `seq` tells of an input that passes a limit, of a source that takes none.
+fn input_told(alloc: Global, input: &[u8]) -> Result<(u8, Vec<u8>), AllocError> {
+    let mut out = MemSink::new(alloc, vec![in alloc; (2, 1)]?);
+    let files = [("s", b"int main(void) {}".as_slice()), ("i", input)];
+    let status = call(alloc, &["seq", "s", "i", "7", "100"], &files, &[], &mut out)?;
+    Ok((status, out.written().to_vec(alloc)?))
+}
+
+#[test]
+fn tells_the_limits_of_inputs(rt: HostRuntime) -> Result<(), Fail> {
+    let alloc = rt.alloc();
+    let mut numbers = Vec::new(alloc);
+    push_all(&mut numbers, "0\n", 1_048_577)?;
+    let (status, written) = input_told(alloc, &numbers)?;
+    assert_eq!(rt; status, 7);
+    assert_eq!(rt;
+        written.as_slice(),
+        b"limit input numbers 1048577 1048576\n".as_slice()
+    );
+    let bytes = vec![in alloc; b' '; 33_554_434]?;
+    let (status, written) = input_told(alloc, &bytes)?;
+    assert_eq!(rt; status, 7);
+    assert_eq!(rt;
+        written.as_slice(),
+        b"limit input bytes 33554433 33554432\n".as_slice()
     );
     Ok(())
 }

@@ -1,20 +1,28 @@
-use Rattle.std.proofs.Common.{inr, map, string_bytes}
-use Rattle.lq_cli.specs.Liquid.{Lost, interleaved}
-use Rattle.lq_cli.specs.Answer.{status_of, line_of}
-use Rattle.lq_cli.proofs.Told.{ready_answers, ready_begins, ready_sequential}
+use Rattle.std.proofs.Common.{map, string_bytes}
+use Rattle.lq_cli.specs.declared.answer.Answer.TheVariants.{BadWords}
+use Rattle.lq_cli.specs.Liquid.{Answers, bad_words, seq, replay}
+use Rattle.lq_cli.specs.Seen.{shelf_state, sink_state}
+use Rattle.lq_cli.specs.commands.Replay.{ReplayAnswers, command_of as replay_of}
+use Rattle.lq_cli.specs.commands.Seq.{SeqAnswers, command_of as seq_of}
+use Rattle.lq_cli.proofs.Told.{answered_more, answered_line}
 use Rattle.lq_cli.proofs.entry.liquid.Goals as goal
 
-pub returns-in-Ok-clause-answers : goal.returns-in-Ok-clause-answers
-returns-in-Ok-clause-answers g c =
-    ready_answers (g.H.Shelf.holding c.args.shelf.now) (Lost (g.H.Shelf.faults c.args.shelf.now) (g.H.Shelf.faults c.prepare.new.shelf) (g.H.Shelf.failed_name c.prepare.new.shelf)) (map string_bytes c.args.words.now) c.in-Ok.ready c.in-Ok.ensures.ready (g.K.Sink.written c.args.out.now) (g.K.Sink.written c.run_ready.new.out) c.run_ready.result c.run_ready.ensures.answers
+pub returns-in-Some : goal.returns-in-Some
+returns-in-Some g c =
+    answered_more {A = SeqAnswers (seq_of c.in-Some.words)} {B = Answers (map string_bytes c.args.words.now)}
+    (shelf_state g.H.Shelf.holding g.H.Shelf.faults g.H.Shelf.failed_name c.args.shelf.now) (shelf_state g.H.Shelf.holding g.H.Shelf.faults g.H.Shelf.failed_name c.seq.new.shelf)
+    (sink_state g.K.Sink.written g.K.Sink.faults c.args.out.now) (sink_state g.K.Sink.written g.K.Sink.faults c.seq.new.out) c.seq.result
+    (λ s status bytes a. seq (seq_of c.in-Some.words) c.in-Some.ensures.some a) c.seq.ensures
 
-pub returns-in-Ok-clause-sequential : goal.returns-in-Ok-clause-sequential
-returns-in-Ok-clause-sequential g c =
-    ready_sequential (g.H.Shelf.holding c.args.shelf.now) (Lost (g.H.Shelf.faults c.args.shelf.now) (g.H.Shelf.faults c.prepare.new.shelf) (g.H.Shelf.failed_name c.prepare.new.shelf)) (map string_bytes c.args.words.now) c.in-Ok.ready c.in-Ok.ensures.ready c.picks_do_not_matter.ensures (g.K.Sink.written c.args.out.now) (g.K.Sink.written c.run_ready.new.out) c.run_ready.result c.run_ready.ensures.answers
+pub returns-in-Some-read_replay : goal.returns-in-Some-read_replay
+returns-in-Some-read_replay g c =
+    answered_more {A = ReplayAnswers (replay_of c.in-Some-read_replay.words)} {B = Answers (map string_bytes c.args.words.now)}
+    (shelf_state g.H.Shelf.holding g.H.Shelf.faults g.H.Shelf.failed_name c.args.shelf.now) (shelf_state g.H.Shelf.holding g.H.Shelf.faults g.H.Shelf.failed_name c.replay.new.shelf)
+    (sink_state g.K.Sink.written g.K.Sink.faults c.args.out.now) (sink_state g.K.Sink.written g.K.Sink.faults c.replay.new.out) c.replay.result
+    (λ s status bytes a. replay (replay_of c.in-Some-read_replay.words) c.in-Some-read_replay.ensures.some a) c.replay.ensures
 
-pub returns-in-Ok-clause-prefix : goal.returns-in-Ok-clause-prefix
-returns-in-Ok-clause-prefix g c =
-    inr (ready_begins (g.H.Shelf.holding c.args.shelf.now) (Lost (g.H.Shelf.faults c.args.shelf.now) (g.H.Shelf.faults c.prepare.new.shelf) (g.H.Shelf.failed_name c.prepare.new.shelf)) (map string_bytes c.args.words.now) c.in-Ok.ready c.in-Ok.ensures.ready (g.K.Sink.written c.args.out.now) (g.K.Sink.written c.run_ready.new.out) c.run_ready.ensures.prefix)
-
-pub returns-in-Err-Told-clause-prefix : goal.returns-in-Err-Told-clause-prefix
-returns-in-Err-Told-clause-prefix g c = inr (status_of c.in-Err-Told.answer, line_of c.in-Err-Told.answer, c.tell.ensures.prefix, (rw c.in-Err-Told.field-0-is at c.in-Err-Told.ensures.told) interleaved)
+pub returns : goal.returns
+returns g c =
+    answered_line {A = Answers (map string_bytes c.args.words.now)} (shelf_state g.H.Shelf.holding g.H.Shelf.faults g.H.Shelf.failed_name c.args.shelf.now) BadWords
+    (sink_state g.K.Sink.written g.K.Sink.faults c.args.out.now) (sink_state g.K.Sink.written g.K.Sink.faults c.tell.new.out) c.tell.result
+    (bad_words (record { no_seq = c.in_default.ensures.none; no_replay = c.in_default-read_replay.ensures.none })) c.tell.ensures

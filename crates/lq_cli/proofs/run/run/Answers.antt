@@ -7,7 +7,7 @@ use Rattle.lq_meaning.specs.Ending.{Outcome}
 use Rattle.lq_meaning.specs.End.{Tells, IsOfRun}
 use Rattle.lq_cli.specs.Run.{run_slice}
 use Rattle.lq_cli.specs.Machine.{world_of, rest_of_run, behind_calloc}
-use Rattle.lq_cli.specs.Lines.{number_lines}
+use Rattle.lq_meaning.specs.Printed.{number_lines}
 use Rattle.lq_cli.proofs.Accepted.{Accepted-from_check}
 use Rattle.lq_cli.proofs.SliceRun.{end_tells, end_printed, written_front, written_all, run_goes_on, run_traps}
 use Rattle.lq_cli.proofs.run.run.Goals as goal

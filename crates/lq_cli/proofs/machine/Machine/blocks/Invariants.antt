@@ -1,6 +1,6 @@
 use Rattle.std.proofs.Common.{◌≡◌, ℕ, ◌+◌, ◌<◌, ◌≤◌, ℤ, List, length}
 use Rattle.std.specs.Prelude.{All}
-use Rattle.lq_machine.specs.Task.{Task}
+use Rattle.lq_meaning.specs.Task.{Task}
 use Rattle.lq_cli.specs.Run.{blocks_then}
 use Rattle.lq_cli.specs.Machine.{IsArray, array, array_len, world_of, rest_of_run}
 use Rattle.lq_cli.proofs.machine.Machine.blocks.Given as goal

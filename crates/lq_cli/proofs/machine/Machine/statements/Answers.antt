@@ -4,10 +4,10 @@ use Rattle.std.proofs.lemmas.List.Elements.{All-same}
 use Rattle.lq_shelf.proofs.Pieces.{Appends-nil, AppendsPrefix-none}
 use Rattle.lq_cli.specs.declared.slice.Store.{Store}
 use Rattle.lq_meaning.specs.Ending.{Done}
-use Rattle.lq_machine.specs.Task.{Task, Ended}
+use Rattle.lq_meaning.specs.Task.{Task, Ended}
 use Rattle.lq_cli.specs.Run.{blocks_then, steps_then}
 use Rattle.lq_cli.specs.Machine.{array, array_len, StepWithin, world_of, rest_of_run}
-use Rattle.lq_cli.specs.Lines.{number_lines}
+use Rattle.lq_meaning.specs.Printed.{number_lines}
 use Rattle.lq_cli.proofs.Accepted.{Accepted-from_check}
 use Rattle.lq_cli.proofs.SliceRun.{stores_first, blocks_next, steps_run_on, spent_runs_on, steps_within}
 use Rattle.lq_cli.proofs.machine.Machine.statements.Goals as goal

@@ -6,7 +6,7 @@ use Rattle.lq_shelf.specs.Sink.{Appends, AppendsPrefix}
 use Rattle.lq_shelf.proofs.Pieces.{Appends-append, AppendsPrefix-append, AppendsPrefix-all}
 use Rattle.lq_cli.specs.declared.slice.Step.TheVariants.{Store}
 use Rattle.lq_cli.specs.Machine.{printed_by, GoesOn}
-use Rattle.lq_cli.specs.Lines.{number_lines}
+use Rattle.lq_meaning.specs.Printed.{number_lines}
 use Rattle.lq_cli.proofs.MachineSteps.{no_store}
 use Rattle.lq_cli.proofs.StepSteps.{number_lines-append, so_far_more, so_far_spent, so_far_broken, so_far_all}
 use Rattle.lq_cli.proofs.machine.Machine.steps.Goals as goal

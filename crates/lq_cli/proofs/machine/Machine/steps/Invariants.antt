@@ -1,9 +1,9 @@
 use Rattle.std.proofs.Common.{◌≡◌, ℕ, ◌≤◌, ℤ, List, ◌++◌, drop}
 use Rattle.lq_shelf.specs.Sink.{Appends}
-use Rattle.lq_machine.specs.Task.{Task}
+use Rattle.lq_meaning.specs.Task.{Task}
 use Rattle.lq_cli.specs.Run.{steps_then}
 use Rattle.lq_cli.specs.Machine.{IsArray, array, array_len, world_of, rest_of_run}
-use Rattle.lq_cli.specs.Lines.{number_lines}
+use Rattle.lq_meaning.specs.Printed.{number_lines}
 use Rattle.lq_cli.proofs.machine.Machine.steps.Given as goal
 
 -- what is left of the statements goes on as all of them did, with the numbers that are printed

@@ -1,5 +1,5 @@
 use Rattle.std.proofs.Common.{◌≡◌, ℕ, ◌≤◌, ℤ, List, drop}
-use Rattle.lq_machine.specs.Task.{Task}
+use Rattle.lq_meaning.specs.Task.{Task}
 use Rattle.lq_cli.specs.Run.{stores_then}
 use Rattle.lq_cli.specs.Machine.{IsArray, array, array_len, world_of, rest_of_run}
 use Rattle.lq_cli.proofs.machine.Machine.stores.Given as goal
