@@ -1,0 +1,11 @@
+pub mod Walks
+pub mod FormedLemmas
+pub mod LayoutLemmas
+pub mod ForestLemmas
+pub mod NumberLemmas
+pub mod LinkLemmas
+pub mod PairLemmas
+pub mod ClassLemmas
+pub mod JoinLemmas
+pub mod Results
+pub mod worked
