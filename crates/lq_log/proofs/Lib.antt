@@ -4,3 +4,4 @@ pub mod SeenLaws
 pub mod ForkLaws
 pub mod NoteLaws
 pub mod KeyLaws
+pub mod RaceOrNone

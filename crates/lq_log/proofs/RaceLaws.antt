@@ -11,7 +11,7 @@ use Rattle.lq_log.specs.declared.entry.Entry.{Entry}
 use Rattle.lq_log.specs.Race.{races, IsRace, IsLeastRace, IsRaceFree}
 
 -- whether an entry races with this later one
-abbrev races_with : Entry → Entry → Bool
+abbrev pub races_with : Entry → Entry → Bool
 races_with later earlier = races earlier later
 
 -- the first entry of a race, seen from the second

@@ -13,7 +13,7 @@ use Rattle.lq_machine.specs.Run.{first_pick, other_picks, run}
 use Rattle.lq_machine.proofs.Runs.{outcome_behind, leaf_of, run-step, run-spent, run-still}
 
 -- the world that a step leaves
-abbrev left_after : {T : Type 0} → Stepped T → World
+abbrev pub left_after : {T : Type 0} → Stepped T → World
 left_after (Moves entries task w) = w
 left_after (Leaves at w) = w
 
@@ -27,7 +27,7 @@ resumed_adds old at entries next (Traps kind w) adds = adds
 resumed_adds old at entries next (Strays w) adds = adds
 
 mutual
-  step_adds : (task : Task) (n : ℕ) (w : World) → Adds w.printed (left_after (step task n w)).printed
+  pub step_adds : (task : Task) (n : ℕ) (w : World) → Adds w.printed (left_after (step task n w)).printed
   step_adds (Ended ending) n w = Adds-none w.printed
   step_adds (Due at action next) n w = resumed_adds w.printed at (logged at action w) next (act action w) (act_adds action w)
   step_adds (Fork children behind) n w = moved_adds w.printed (λ children. forked children behind) (step_in children n w) (step_in_adds children n w)

@@ -1,11 +1,11 @@
 //! What follows from the definitions alone: each law is the contract of a function that does nothing.
 
-ghost use Rattle.std.specs.Prelude.{◌≡◌, ◌<◌, ℕ, ℤ, List};
+ghost use Rattle.std.specs.Prelude.{◌≡◌, ◌≢◌, ◌<◌, ℕ, ℤ, List};
 ghost use Rattle.std.specs.List.{AllByRecursion};
 ghost use Rattle.lq_tree.specs.declared.plain.PProgram.{PProgram};
 ghost use Rattle.lq_tree.specs.Formed.{IsFormed};
 ghost use Rattle.lq_meaning.specs.World.{World};
-ghost use Rattle.lq_meaning.specs.Ending.{Ending};
+ghost use Rattle.lq_meaning.specs.Ending.{Ending, Unruled};
 ghost use Rattle.lq_meaning.specs.Behaviour.{bounded};
 ghost use Rattle.lq_meaning.specs.PlainMeaning.{sequential};
 ghost use Rattle.lq_meaning.specs.Task.{Ended};
@@ -37,3 +37,10 @@ pub fn bounds_of_tasks_do_not_matter()
     ensures logs { (p : PProgram) (fuel turns words : ℕ) (input : List ℤ) (picks : List ℕ) → fuel < turns
         → log_from fuel picks (bounded turns words p input) ≡ replay_log fuel words p input picks }
 {}
+
+/// A replay of a formed plain program never ends for want of a rule (docs/LANGUAGE.md, "What holds of a plain program").
+pub fn replays_have_rules()
+    ensures { (p : PProgram) → IsFormed p → (fuel words : ℕ) (input : List ℤ) (picks : List ℕ) → (replay fuel words p input picks).ending ≢ Unruled }
+{
+    formed_programs_have_regular_tasks();
+}
