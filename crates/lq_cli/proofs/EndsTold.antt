@@ -21,11 +21,11 @@ use Rattle.lq_cli.specs.Ends.{Ends, RunOf, done, trapped, strayed, spent}
 use Rattle.lq_cli.specs.Seen.{SinkState}
 
 -- some answer is due for an outcome
-abbrev HasEnd : Outcome → Type 0
+abbrev pub HasEnd : Outcome → Type 0
 HasEnd o = (status : ℕ) × (bytes : List ℕ) × Ends o status bytes
 
 -- so it is for one that has a rule
-has_end : (o : Outcome) → (o.ending ≡ Unruled → ⊥) → HasEnd o
+pub has_end : (o : Outcome) → (o.ending ≡ Unruled → ⊥) → HasEnd o
 has_end o ruled = by_ending o.ending refl where
   by_ending : (ending : Ending) → o.ending ≡ ending → HasEnd o
   by_ending Done e = (0, number_lines o.world.printed, done e)
@@ -35,7 +35,7 @@ has_end o ruled = by_ending o.ending refl where
   by_ending Unruled e = absurd (ruled e)
 
 -- the numbers come first in the bytes of an answer
-begins_by_numbers : (o : Outcome) (status : ℕ) (bytes : List ℕ) (old new : SinkState) → Ends o status bytes → AppendsPrefix old.written new.written (number_lines o.world.printed) → AppendsPrefix old.written new.written bytes
+pub begins_by_numbers : (o : Outcome) (status : ℕ) (bytes : List ℕ) (old new : SinkState) → Ends o status bytes → AppendsPrefix old.written new.written (number_lines o.world.printed) → AppendsPrefix old.written new.written bytes
 begins_by_numbers o status bytes old new (done e) p = p
 begins_by_numbers o status bytes old new (trapped {t} e) p = AppendsPrefix-more old.written new.written (number_lines o.world.printed) (trap t) p
 begins_by_numbers o status bytes old new (strayed {at} e) p = AppendsPrefix-more old.written new.written (number_lines o.world.printed) (stray at) p
@@ -57,16 +57,16 @@ module _ (o : Outcome) (old middle : SinkState) where
         no_sink_fault = λ _. run.no_sink_fault no_fault;
       }
 
-  -- the line of the end stands behind the numbers
-  end_line : {end : End} (answer : Answer) (new : SinkState) (result : ℕ) → RunOf end o old middle → IsOfRun end → (IsSinkFault end → ⊥) →
-      Ends o (status_of answer) (number_lines o.world.printed ++ line_of answer) → Told (LineAnswers answer) middle new result → Told (Ends o) old new result
-  end_line answer new result run of_run no_fault e told =
+  -- the line of the end stands behind the numbers, by each table that has the answer
+  pub end_line : {end : End} (E : ℕ → List ℕ → Type 0) (answer : Answer) (new : SinkState) (result : ℕ) → RunOf end o old middle → IsOfRun end → (IsSinkFault end → ⊥) →
+      E (status_of answer) (number_lines o.world.printed ++ line_of answer) → Told (LineAnswers answer) middle new result → Told E old new result
+  end_line E answer new result run of_run no_fault e told =
       record {
         told = ⊎_elim inl
             (λ t. inr (
               number_lines o.world.printed ++ t.0,
               Appends-append old.written middle.written new.written (number_lines o.world.printed) t.0 (run.all of_run) t.1,
-              subst (λ (n : ℕ). Ends o n (number_lines o.world.printed ++ t.0)) (sym t.2.0) (subst (λ (b : List ℕ). Ends o (status_of answer) (number_lines o.world.printed ++ b)) (sym t.2.1) e),
+              subst (λ (n : ℕ). E n (number_lines o.world.printed ++ t.0)) (sym t.2.0) (subst (λ (b : List ℕ). E (status_of answer) (number_lines o.world.printed ++ b)) (sym t.2.1) e),
             ))
             told.told;
         prefix = inr (
@@ -94,19 +94,19 @@ module _ (o : Outcome) (old middle : SinkState) where
       Told (LineAnswers (TrapAnswer kind at)) middle new result → Told (Ends o) old new result
   trap_told end kind at memory cost new result is run told =
       let r : RunOf (TrapEnd kind at memory cost) o old middle = subst (λ (e : End). RunOf e o old middle) is run in
-      end_line (TrapAnswer kind at) new result r tt (λ f. f) (trapped r.tells.ending) told
+      end_line (Ends o) (TrapAnswer kind at) new result r tt (λ f. f) (trapped r.tells.ending) told
 
   pub stray_told : (end : End) (at : Place) (new : SinkState) (result : ℕ) → end ≡ StrayEnd at → RunOf end o old middle →
       Told (LineAnswers (StrayAnswer at)) middle new result → Told (Ends o) old new result
   stray_told end at new result is run told =
       let r : RunOf (StrayEnd at) o old middle = subst (λ (e : End). RunOf e o old middle) is run in
-      end_line (StrayAnswer at) new result r tt (λ f. f) (strayed r.tells) told
+      end_line (Ends o) (StrayAnswer at) new result r tt (λ f. f) (strayed r.tells) told
 
   pub fuel_told : (end : End) (new : SinkState) (result : ℕ) → end ≡ FuelEnd → RunOf end o old middle →
       Told (LineAnswers FuelAnswer) middle new result → Told (Ends o) old new result
   fuel_told end new result is run told =
       let r : RunOf FuelEnd o old middle = subst (λ (e : End). RunOf e o old middle) is run in
-      end_line FuelAnswer new result r tt (λ f. f) (spent r.tells) told
+      end_line (Ends o) FuelAnswer new result r tt (λ f. f) (spent r.tells) told
 
   -- a run whose sink failed, and one that found no memory
   pub sink_told : (end : End) → end ≡ SinkFault → RunOf end o old middle → Told (Ends o) old middle 10

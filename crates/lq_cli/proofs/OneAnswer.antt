@@ -1,33 +1,32 @@
 -- The words of a command line have at most one answer.
-use Rattle.std.proofs.Common.{◌≡◌, ◌⊎◌, inl, inr, ℕ, ◌+◌, ◌^◌, ℤ, pos, unsigned_abs, List, [], ◌∷◌, map, drop, get_or, Option, None, Some, refl, sym, ap, ◌∙◌, subst, arith}
-use Rattle.std.specs.Prelude.{codes, ◌++◌}
+use Rattle.std.proofs.Common.{◌≡◌, ◌⊎◌, inl, inr, ℕ, ◌+◌, ◌^◌, ℤ, pos, unsigned_abs, List, [], ◌∷◌, map, drop, get_or, Some, refl, sym, ap, ◌∙◌, subst, arith}
+use Rattle.std.specs.Prelude.{codes, ◌++◌, ◌<◌, ◌≤◌, slice_get}
+use Rattle.std.proofs.lemmas.Option.{same_Some}
 use Rattle.lq_tree.specs.declared.place.Place.{Place}
 use Rattle.lq_tree.specs.declared.limit.Quantity.{Quantity}
 use Rattle.lq_tree.specs.declared.limit.Quantity.TheVariants.{SourceBytes}
 use Rattle.lq_tree.specs.declared.program.Program.{Program}
-use Rattle.lq_tree.specs.Place.{place_text}
 use Rattle.lq_text.specs.Numeral.{IsNumeral}
-use Rattle.lq_meaning.specs.Ending.{Ending, Trap, Done, Trapped, Strayed, Spent, Unruled, Outcome}
+use Rattle.lq_meaning.specs.Ending.{Ending, Done, Trapped, Strayed, Spent, Unruled, Outcome}
 use Rattle.lq_meaning.specs.Meaning.{sequential}
 use Rattle.lq_meaning.specs.Printed.{number_lines}
+use Rattle.lq_log.specs.declared.entry.Entry.{Entry}
+use Rattle.lq_log.specs.Race.{IsLeastRace}
 use Rattle.lq_cli.specs.declared.numbers.NumbersFile.{NumbersFile}
 use Rattle.lq_cli.specs.declared.numbers.NumbersFile.TheVariants.{Input, Picks}
-use Rattle.lq_cli.specs.declared.slice.Slice.{Slice}
-use Rattle.lq_cli.specs.Lines.{line, trap, stray, read_fault}
+use Rattle.lq_cli.specs.Lines.{line, trap, stray, race, read_fault}
 use Rattle.lq_cli.specs.Words.{IsCount, AreRoom, most_words}
 use Rattle.lq_cli.specs.Seen.{Seen, Failed}
 use Rattle.lq_cli.specs.Files.{FileAnswers, unread, larger}
 use Rattle.lq_cli.specs.Numbers.{size_of, NumbersAnswers, file as numbers_file, bad_line, more}
-use Rattle.lq_cli.specs.Text.{Reads, SourceAnswers, file, lexical, brackets, stretch, annotation, syntax, count, names}
+use Rattle.lq_cli.specs.Text.{SourceAnswers, file, lexical, brackets, stretch, annotation, syntax, count, names}
 use Rattle.lq_cli.specs.Ends.{Ends, done, trapped, strayed, spent}
 use Rattle.lq_cli.specs.Laws.{TellsFiles, NoneFailed, AtMostOne, unfailed}
-use Rattle.lq_cli.specs.Literal.{literal_faults, first_of, IsAccepted}
 use Rattle.lq_cli.specs.Liquid.{Answers, bad_words, seq, replay}
 use Rattle.lq_cli.specs.commands.Seq.{Seq, SeqAnswers, Spells as SpellsSeq, source as seq_source, input as seq_input, ran as seq_ran}
-use Rattle.lq_cli.specs.commands.Replay.{Replay, IsOfSlice, ReplayAnswers, Spells as SpellsReplay, source as replay_source, outside, picks as replay_picks, refused, ran as replay_ran}
+use Rattle.lq_cli.specs.commands.Replay.{Replay, race_line, ReplayEnds, met_stray, raced, ended, outcome_of, log_of, ReplayAnswers, Spells as SpellsReplay, source as replay_source, input as replay_input, picks as replay_picks, ran as replay_ran}
 use Rattle.lq_cli.proofs.OnlyOne.{Rows, Line, When, Among, Either, Never, one_line, one_never, one_when, one_among, one_either, one_within}
 use Rattle.lq_cli.proofs.Decided.{Laws, ByNumbers, one_numbers, numbers_answer, numbers_go_on, BySource, one_source, source_answer, source_goes_on}
-use Rattle.lq_cli.proofs.SameSlice.{same_slice}
 
 -- an outcome has one end
 abbrev By_ending : Outcome → Ending → Rows
@@ -76,19 +75,20 @@ module _ (one_value : (text : List ℕ) (y z : ℤ) → IsNumeral text y → IsN
         words = room.1 j;
       }
 
-  one_replay : (words : List (List ℕ)) (c d : Replay) → SpellsReplay words c → SpellsReplay words d → c ≡ d
+  pub one_replay : (words : List (List ℕ)) (c d : Replay) → SpellsReplay words c → SpellsReplay words d → c ≡ d
   one_replay words c d p q =
       let same = sym p.form ∙ q.form in
       let room = one_room 4194304 p.last q.last c.fuel d.fuel c.words d.words (ap (λ (l : List (List ℕ)). drop 4 l) same) p.room q.room in
       λ j. record {
         source = ap (λ (l : List (List ℕ)). get_or l 1 []) same j;
+        input = ap (λ (l : List (List ℕ)). get_or l 2 []) same j;
         picks = ap (λ (l : List (List ℕ)). get_or l 3 []) same j;
         fuel = room.0 j;
         words = room.1 j;
       }
 
 -- no words spell two commands
-other_name : (words : List (List ℕ)) (c : Seq) (d : Replay) → SpellsSeq words c → SpellsReplay words d → ⊥
+pub other_name : (words : List (List ℕ)) (c : Seq) (d : Replay) → SpellsSeq words c → SpellsReplay words d → ⊥
 other_name words c d p q =
     let e : 3 ≡ 6 = ap (λ (l : List (List ℕ)). name_length (get_or l 0 [])) (sym p.form ∙ q.form) in
     omega (arith, e)
@@ -105,12 +105,41 @@ one_picks p q e = sym (back p) ∙ ap (map unsigned_abs) e ∙ back q
     back [] = refl
     back (n ∷ l) = ap (λ (t : List ℕ). n ∷ t) (back l)
 
-no_first : {at : Place} → Some at ≡ None → ⊥
-no_first e = absurd cc
+-- a least race is one
+one_least : (log : List Entry) (i j k l : ℕ) → IsLeastRace log i j → IsLeastRace log k l → (i ≡ k) × (j ≡ l)
+one_least log i j k l p q = by_order (p.least k l q.race) (q.least i j p.race) where
+  by_order : (j < l) ⊎ ((j ≡ l) × (i ≤ k)) → (l < j) ⊎ ((l ≡ j) × (k ≤ i)) → (i ≡ k) × (j ≡ l)
+  by_order (inl less) (inl past) = absurd (omega (arith, less, past))
+  by_order (inl less) (inr same) = absurd (omega (arith, less, same.0))
+  by_order (inr same) (inl past) = absurd (omega (arith, same.0, past))
+  by_order (inr same) (inr back) = (omega (arith, same.1, back.1), same.0)
 
-abbrev place_or : Place → Option Place → Place
-place_or at (Some found) = found
-place_or at None = at
+-- so are its entries
+one_entry : (log : List Entry) (i k : ℕ) (first other : Entry) → i ≡ k → slice_get log i ≡ Some first → slice_get log k ≡ Some other → first ≡ other
+one_entry log i k first other same p q = same_Some first other (sym p ∙ (ap (slice_get log) same ∙ q))
+
+one_race : (log : List Entry) (i j k l : ℕ) (p : IsLeastRace log i j) (q : IsLeastRace log k l) → race_line i j p.race ≡ race_line k l q.race
+one_race log i j k l p q =
+    let same = one_least log i j k l p q in
+    let first = one_entry log i k p.race.first q.race.first same.0 p.race.at_i q.race.at_i in
+    let second = one_entry log j l p.race.second q.race.second same.1 p.race.at_j q.race.at_j in
+    λ n. race (same.0 n + 1) (same.1 n + 1) (first n).at (second n).at
+
+-- a run with a log has one answer
+abbrev place_in : Place → Ending → Place
+place_in at (Strayed found) = found
+place_in at ending = at
+
+one_replay_end : (o : Outcome) (log : List Entry) → AtMostOne (ReplayEnds o log)
+one_replay_end o log _ _ _ _ (met_stray {at} e) (met_stray {at = other} f) = (refl, ap (λ (ending : Ending). number_lines o.world.printed ++ stray (place_in at ending)) (sym e ∙ f))
+one_replay_end o log _ _ _ _ (met_stray {at} e) (raced k l q none) = absurd (none at e)
+one_replay_end o log _ _ _ _ (met_stray {at} e) (ended none free f) = absurd (none at e)
+one_replay_end o log _ _ _ _ (raced i j p none) (met_stray {at} e) = absurd (none at e)
+one_replay_end o log _ _ _ _ (raced i j p none) (raced k l q other) = (refl, ap (λ (line : List ℕ). number_lines o.world.printed ++ line) (one_race log i j k l p q))
+one_replay_end o log _ _ _ _ (raced i j p none) (ended other free f) = absurd (free i j p.race)
+one_replay_end o log _ _ _ _ (ended none free e) (met_stray {at} f) = absurd (none at f)
+one_replay_end o log _ _ _ _ (ended none free e) (raced k l q other) = absurd (free k l q.race)
+one_replay_end o log s t b c (ended none free e) (ended other also f) = one_end o s t b c e f
 
 -- the answers of the commands
 module _ (laws : Laws) (s : Seen) (tells : TellsFiles s) (none : NoneFailed s) where
@@ -134,50 +163,34 @@ module _ (laws : Laws) (s : Seen) (tells : TellsFiles s) (none : NoneFailed s) w
         (λ text tree reads. one_numbers laws s tells none Input c.input (λ numbers. Ends (sequential c.fuel c.words tree numbers)) (λ numbers. one_end (sequential c.fuel c.words tree numbers))))
 
   module _ (c : Replay) where
-    abbrev By_check : Program → Slice → Rows
-    By_check tree slice = Either
-        (Among (λ at. first_of (literal_faults slice) ≡ Some at) (λ at. Line 2 (line (codes "refused literal at " ++ place_text at))))
-        (When (IsAccepted slice) (Ends (sequential c.fuel c.words tree [])))
+    abbrev By_run : Program → List ℤ → List ℤ → Rows
+    By_run tree given numbers = Among (λ picked. map pos picked ≡ numbers) (λ picked. ReplayEnds (outcome_of c tree given picked) (log_of c tree given picked))
 
-    abbrev By_picks : Program → Slice → List ℤ → Rows
-    By_picks tree slice numbers = Among (λ picks. map pos picks ≡ numbers) (λ picks. By_check tree slice)
+    abbrev By_picks : Program → List ℤ → Rows
+    By_picks tree given = ByNumbers laws s tells none Picks c.picks (By_run tree given)
 
-    abbrev Is_slice : List ℕ → Program → Slice → Type 0
-    Is_slice text tree slice = (array : List ℕ) × IsOfSlice text tree array slice
+    abbrev By_given : Program → Rows
+    By_given tree = ByNumbers laws s tells none Input c.input (By_picks tree)
 
-    abbrev By_slice : List ℕ → Program → Rows
-    By_slice text tree = Either
-        (When ((array : List ℕ) (slice : Slice) → ¬ IsOfSlice text tree array slice) (Line 3 (line (codes "outside the slice"))))
-        (Among (Is_slice text tree) (λ slice. ByNumbers laws s tells none Picks c.picks (By_picks tree slice)))
-
-    replay_answer : (status : ℕ) (bytes : List ℕ) → ReplayAnswers c s status bytes → BySource laws s tells none c.source By_slice status bytes
-    replay_answer status bytes (replay_source a) = source_answer laws s tells none c.source By_slice status bytes a
-    replay_answer _ _ (outside tree source no_slice) = source_goes_on laws s tells none c.source By_slice _ _ tree source (inl (no_slice, (refl, refl)))
-    replay_answer status bytes (replay_picks tree slice has a) =
-        source_goes_on laws s tells none c.source By_slice status bytes tree has.source
-        (inr (slice, (has.array, has.is), numbers_answer laws s tells none Picks c.picks (By_picks tree slice) status bytes a))
-    replay_answer _ _ (refused tree slice picks at has are first) =
-        source_goes_on laws s tells none c.source By_slice _ _ tree has.source
-        (inr (slice, (has.array, has.is), numbers_go_on laws s tells none Picks c.picks (By_picks tree slice) _ _ (map pos picks) are (picks, refl, inl (at, first, (refl, refl)))))
-    replay_answer status bytes (replay_ran tree slice picks has are accepted no_stray run ends) =
-        source_goes_on laws s tells none c.source By_slice status bytes tree has.source
-        (inr (slice, (has.array, has.is), numbers_go_on laws s tells none Picks c.picks (By_picks tree slice) status bytes (map pos picks) are (picks, refl, inr (accepted, ends))))
-
-    one_check : (tree : Program) (slice : Slice) → AtMostOne (By_check tree slice)
-    one_check tree slice =
-        one_either (one_among (λ x y p q. ap (place_or x) (sym p ∙ q)) (λ x p. one_line 2 _)) (one_when (λ accepted. one_end (sequential c.fuel c.words tree [])))
-        (λ s t b c p q. no_first (sym p.1 ∙ ap first_of q.0))
-
-    one_slice : (text : List ℕ) (tree : Program) → AtMostOne (By_slice text tree)
-    one_slice text tree =
-        one_either (one_when (λ no_slice. one_line 3 _))
-        (one_among (λ x y p q. same_slice tree p.0 q.0 x y p.1.is q.1.is)
-        (λ slice is. one_numbers laws s tells none Picks c.picks (By_picks tree slice)
-        (λ numbers. one_among (λ x y p q. one_picks x y (p ∙ sym q)) (λ picks is. one_check tree slice))))
-        (λ s t b c p q. p.0 q.1.0 q.0 q.1.1)
+    replay_answer : (status : ℕ) (bytes : List ℕ) → ReplayAnswers c s status bytes → BySource laws s tells none c.source (λ text. By_given) status bytes
+    replay_answer status bytes (replay_source a) = source_answer laws s tells none c.source (λ text. By_given) status bytes a
+    replay_answer status bytes (replay_input tree source a) =
+        source_goes_on laws s tells none c.source (λ text. By_given) status bytes tree source (numbers_answer laws s tells none Input c.input (By_picks tree) status bytes a)
+    replay_answer status bytes (replay_picks tree given source are a) =
+        source_goes_on laws s tells none c.source (λ text. By_given) status bytes tree source
+        (numbers_go_on laws s tells none Input c.input (By_picks tree) status bytes given are (numbers_answer laws s tells none Picks c.picks (By_run tree given) status bytes a))
+    replay_answer status bytes (replay_ran tree given picked files ends) =
+        source_goes_on laws s tells none c.source (λ text. By_given) status bytes tree files.source
+        (numbers_go_on laws s tells none Input c.input (By_picks tree) status bytes given files.input
+        (numbers_go_on laws s tells none Picks c.picks (By_run tree given) status bytes (map pos picked) files.picks (picked, refl, ends)))
 
     one_replay_answer : AtMostOne (ReplayAnswers c s)
-    one_replay_answer = one_within replay_answer (one_source laws s tells none c.source By_slice (λ text tree reads. one_slice text tree))
+    one_replay_answer =
+        one_within replay_answer
+        (one_source laws s tells none c.source (λ text. By_given)
+        (λ text tree reads. one_numbers laws s tells none Input c.input (By_picks tree)
+        (λ given. one_numbers laws s tells none Picks c.picks (By_run tree given)
+        (λ numbers. one_among (λ x y p q. one_picks x y (p ∙ sym q)) (λ picked is. one_replay_end (outcome_of c tree given picked) (log_of c tree given picked))))))
 
   -- the answers to words, by the command that they ask for
   module _ (one_value : (text : List ℕ) (y z : ℤ) → IsNumeral text y → IsNumeral text z → y ≡ z) (words : List (List ℕ)) where
@@ -239,10 +252,9 @@ module _ (s : Seen) (name : List ℕ) (failed : Failed s name) where
 
   replay_fault : (c : Replay) (status : ℕ) (bytes : List ℕ) → ReplayAnswers c s status bytes → Or_fault (ReplayAnswers c (unfailed s)) status bytes
   replay_fault c status bytes (replay_source a) = or_more (SourceAnswers c.source (unfailed s)) (ReplayAnswers c (unfailed s)) status bytes (λ a. replay_source a) (source_fault c.source status bytes a)
-  replay_fault c _ _ (outside tree source no_slice) = inl (outside tree source no_slice)
-  replay_fault c status bytes (replay_picks tree slice has a) = or_more (NumbersAnswers Picks c.picks (unfailed s)) (ReplayAnswers c (unfailed s)) status bytes (λ a. replay_picks tree slice has a) (numbers_fault Picks c.picks status bytes a)
-  replay_fault c _ _ (refused tree slice picks at has are first) = inl (refused tree slice picks at has are first)
-  replay_fault c status bytes (replay_ran tree slice picks has are accepted no_stray run ends) = inl (replay_ran tree slice picks has are accepted no_stray run ends)
+  replay_fault c status bytes (replay_input tree source a) = or_more (NumbersAnswers Input c.input (unfailed s)) (ReplayAnswers c (unfailed s)) status bytes (λ a. replay_input tree source a) (numbers_fault Input c.input status bytes a)
+  replay_fault c status bytes (replay_picks tree given source are a) = or_more (NumbersAnswers Picks c.picks (unfailed s)) (ReplayAnswers c (unfailed s)) status bytes (λ a. replay_picks tree given source are a) (numbers_fault Picks c.picks status bytes a)
+  replay_fault c status bytes (replay_ran tree given picked files ends) = inl (replay_ran tree given picked files ends)
 
   pub or_fault : (words : List (List ℕ)) (status : ℕ) (bytes : List ℕ) → Answers words s status bytes → Or_fault (Answers words (unfailed s)) status bytes
   or_fault words _ _ (bad_words bad) = inl (bad_words bad)

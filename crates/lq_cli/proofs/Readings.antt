@@ -2,7 +2,7 @@
 use Rattle.std.proofs.Common.{◌≡◌, ℕ, List, sym, ◌∙◌, subst}
 use Rattle.lq_shelf.specs.Shelf.{Holding}
 use Rattle.lq_cli.specs.declared.answer.Answer.{Answer}
-use Rattle.lq_cli.specs.declared.answer.Answer.TheVariants.{BadWords, ReadFault, Limit, Lexical, Annotation, Syntax, Names, Outside, BadLine, Literal, Trap, Stray, Fuel}
+use Rattle.lq_cli.specs.declared.answer.Answer.TheVariants.{BadWords, ReadFault, Limit, Lexical, Annotation, Syntax, Names, BadLine, Trap, Stray, Race, Fuel}
 use Rattle.lq_cli.specs.declared.stop.Stop.{Stop}
 use Rattle.lq_cli.specs.declared.stop.Stop.TheVariants.{Told, NoMemory}
 use Rattle.lq_cli.specs.Answer.{status_of, line_of}
@@ -31,11 +31,10 @@ on_other (Told (Lexical at)) more p = more p
 on_other (Told (Annotation at)) more p = more p
 on_other (Told (Syntax at)) more p = more p
 on_other (Told (Names rule at)) more p = more p
-on_other (Told Outside) more p = more p
 on_other (Told (BadLine kind number)) more p = more p
-on_other (Told (Literal at)) more p = more p
 on_other (Told (Trap kind at)) more p = more p
 on_other (Told (Stray at)) more p = more p
+on_other (Told (Race i j first second)) more p = more p
 on_other (Told Fuel) more p = more p
 
 pub always_other : {P : Type 0} (stop : Stop) → P → OnOther stop P
@@ -47,11 +46,10 @@ always_other (Told (Lexical at)) p = p
 always_other (Told (Annotation at)) p = p
 always_other (Told (Syntax at)) p = p
 always_other (Told (Names rule at)) p = p
-always_other (Told Outside) p = p
 always_other (Told (BadLine kind number)) p = p
-always_other (Told (Literal at)) p = p
 always_other (Told (Trap kind at)) p = p
 always_other (Told (Stray at)) p = p
+always_other (Told (Race i j first second)) p = p
 always_other (Told Fuel) p = p
 
 -- of what was seen in a call, the answers of one table are those of another

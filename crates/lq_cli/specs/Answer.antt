@@ -4,8 +4,8 @@ use Rattle.lq_tree.specs.Place.{place_text}
 use Rattle.lq_shelf.specs.declared.sink.Put.{Put}
 use Rattle.lq_shelf.specs.declared.sink.Put.TheVariants.{Failed, NoMemory}
 use Rattle.lq_cli.specs.declared.answer.Answer.{Answer}
-use Rattle.lq_cli.specs.declared.answer.Answer.TheVariants.{BadWords, ReadFault, Limit, Lexical, Annotation, Syntax, Names, Outside, BadLine, Literal, Trap, Stray, Fuel}
-use Rattle.lq_cli.specs.Lines.{line, trap, stray, read_fault, limit}
+use Rattle.lq_cli.specs.declared.answer.Answer.TheVariants.{BadWords, ReadFault, Limit, Lexical, Annotation, Syntax, Names, BadLine, Trap, Stray, Race, Fuel}
+use Rattle.lq_cli.specs.Lines.{line, trap, stray, race, read_fault, limit}
 use Rattle.lq_cli.specs.Numbers.{bad_line_of}
 
 -- the status of an answer
@@ -17,11 +17,10 @@ status_of (Lexical at) = 3
 status_of (Annotation at) = 4
 status_of (Syntax at) = 3
 status_of (Names rule at) = 4
-status_of Outside = 3
 status_of (BadLine kind number) = 6
-status_of (Literal at) = 2
 status_of (Trap kind at) = 1
 status_of (Stray at) = 13
+status_of (Race i j first second) = 14
 status_of Fuel = 8
 
 -- its line
@@ -33,11 +32,10 @@ line_of (Lexical at) = line (codes "lexical fault at " ++ place_text at)
 line_of (Annotation at) = line (codes "annotation at " ++ place_text at)
 line_of (Syntax at) = line (codes "syntax fault near " ++ place_text at)
 line_of (Names rule at) = line (codes "names N" ++ decimal rule ++ codes " at " ++ place_text at)
-line_of Outside = line (codes "outside the slice")
 line_of (BadLine kind number) = bad_line_of kind number
-line_of (Literal at) = line (codes "refused literal at " ++ place_text at)
 line_of (Trap kind at) = trap (record { kind = kind; at = at })
 line_of (Stray at) = stray at
+line_of (Race i j first second) = race i j first second
 line_of Fuel = line (codes "out of fuel")
 
 -- the status where a put gives up

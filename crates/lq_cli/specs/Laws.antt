@@ -1,26 +1,9 @@
--- What is claimed of answers, and of the runs of a slice (docs/COMMANDS.md, "Statuses"; docs/LANGUAGE.md, "The slice").
+-- What is claimed of answers (docs/COMMANDS.md, "Statuses").
 use Rattle.std.specs.Prelude.{◌≡◌, ◌≢◌, ◌⊎◌, ℕ, List, []}
-use Rattle.lq_tree.specs.declared.place.Place.{Place}
 use Rattle.lq_shelf.specs.Shelf.{Untold}
-use Rattle.lq_meaning.specs.Ending.{Strayed}
-use Rattle.lq_meaning.specs.Meaning.{sequential}
-use Rattle.lq_meaning.specs.Agree.{Agree}
-use Rattle.lq_cli.specs.declared.slice.Slice.{Slice}
 use Rattle.lq_cli.specs.Lines.{read_fault}
 use Rattle.lq_cli.specs.Seen.{Seen, Failed}
 use Rattle.lq_cli.specs.Liquid.{Answers}
-use Rattle.lq_cli.specs.Literal.{IsAccepted}
-use Rattle.lq_cli.specs.Source.{program}
-use Rattle.lq_cli.specs.Run.{run_slice}
-
--- The run of an accepted slice meets no stray and agrees with the sequential execution of its source, under every
--- list of picks, with every fuel and every number of words.
-abbrev pub PicksDoNotMatter : Type 0
-PicksDoNotMatter =
-    (name : List ℕ) (s : Slice) (fuel words : ℕ) (picks : List ℕ) →
-    IsAccepted s →
-    ((at : Place) → (run_slice fuel words picks s).ending ≢ Strayed at)
-    × Agree (run_slice fuel words picks s) (sequential fuel words (program name s) [])
 
 -- the shelf tells what it holds under each name
 abbrev pub TellsFiles : Seen → Type 0

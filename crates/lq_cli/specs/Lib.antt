@@ -10,11 +10,7 @@ pub mod Answered
 pub mod Stop
 pub mod commands
 pub mod Readers
+pub mod Replayed
 pub mod Liquid
+pub mod CleanReplays
 pub mod Laws
-pub mod Source
-pub mod Slicing
-pub mod Run
-pub mod Literal
-pub mod Parentheses
-pub mod Machine

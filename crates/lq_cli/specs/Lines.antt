@@ -33,3 +33,6 @@ trap t = line (codes "trap " ++ kind_text t.kind ++ codes " at " ++ place_text t
 
 abbrev pub stray : Place → List ℕ
 stray at = line (codes "stray at " ++ place_text at)
+
+abbrev pub race : (i j : ℕ) → (first second : Place) → List ℕ
+race i j first second = line (codes "race " ++ decimal i ++ codes " " ++ decimal j ++ codes " at " ++ place_text first ++ codes " and " ++ place_text second)

@@ -17,8 +17,7 @@ use Rattle.lq_cli.specs.Files.{IsFile}
 use Rattle.lq_cli.specs.Numbers.{size_of, AreNumbers, NumbersAnswers}
 use Rattle.lq_cli.specs.Text.{Reads, SourceAnswers}
 use Rattle.lq_cli.specs.commands.Seq.{Seq}
-use Rattle.lq_cli.specs.commands.Replay.{Replay, HasSlice}
-use Rattle.lq_cli.specs.Literal.{IsAccepted}
+use Rattle.lq_cli.specs.commands.Replay.{Replay}
 
 -- an answer to a text that is no file of numbers, by whatever name it was fetched
 abbrev pub TellsNumbers : NumbersFile → (text : List ℕ) → Answer → Type 0
@@ -47,7 +46,6 @@ pub record AreFiles (held : List ℕ → Holding) (c : Seq) (files : Files) : Ty
 
 -- what `replay` runs
 pub record IsReady (held : List ℕ → Holding) (c : Replay) (ready : Ready) : Type 0 where
-  pub tree : Program
-  pub slice : HasSlice held c tree ready.slice
+  pub source : IsRead held c.source ready.source
+  pub input : AreNumbers held Input c.input ready.input.items
   pub picks : AreNumbers held Picks c.picks (map pos ready.picks.items)
-  pub accepted : IsAccepted ready.slice

@@ -30,16 +30,14 @@ pub enum Answer<'a> {
     Syntax(Place),
     /// The name rule that is broken first, and where.
     Names(u8, Place),
-    /// The source is not in the slice.
-    Outside,
     /// The number, from 1, of the first bad line of a file of numbers.
     BadLine(NumbersFile, u64),
-    /// Where the check of literals fails first.
-    Literal(Place),
     /// The run trapped.
     Trap(TrapKind, Place),
     /// The run left a block.
     Stray(Place),
+    /// The numbers, from 1, of the entries of the least race, and their places.
+    Race(u64, u64, Place, Place),
     /// The run is out of fuel.
     Fuel,
 }
@@ -65,11 +63,12 @@ impl fmt::Display for Answer<'_> {
             Answer::Annotation(at) => writeln!(f, "annotation at {at}"),
             Answer::Syntax(at) => writeln!(f, "syntax fault near {at}"),
             Answer::Names(rule, at) => writeln!(f, "names N{rule} at {at}"),
-            Answer::Outside => writeln!(f, "outside the slice"),
             Answer::BadLine(kind, line) => writeln!(f, "bad {} line {line}", kind.word()),
-            Answer::Literal(at) => writeln!(f, "refused literal at {at}"),
             Answer::Trap(kind, at) => writeln!(f, "trap {kind} at {at}"),
             Answer::Stray(at) => writeln!(f, "stray at {at}"),
+            Answer::Race(i, j, first, second) => {
+                writeln!(f, "race {i} {j} at {first} and {second}")
+            }
             Answer::Fuel => writeln!(f, "out of fuel"),
         }
     }
@@ -89,12 +88,12 @@ impl Answer<'_> {
             Answer::BadWords => 12,
             Answer::ReadFault(_) => 9,
             Answer::Limit(_) => 7,
-            Answer::Lexical(_) | Answer::Syntax(_) | Answer::Outside => 3,
+            Answer::Lexical(_) | Answer::Syntax(_) => 3,
             Answer::Annotation(_) | Answer::Names(..) => 4,
             Answer::BadLine(..) => 6,
-            Answer::Literal(_) => 2,
             Answer::Trap(..) => 1,
             Answer::Stray(_) => 13,
+            Answer::Race(..) => 14,
             Answer::Fuel => 8,
         }
     }

@@ -7,13 +7,7 @@ mod end;
 mod entry;
 mod files;
 mod laws;
-mod literal;
-mod machine;
 mod numbers;
-mod parentheses;
-mod run;
-mod slice;
-mod slicing;
 mod stop;
 #[cfg(test)]
 mod tests;
@@ -21,5 +15,4 @@ mod text;
 mod words;
 
 pub use entry::liquid;
-pub use laws::{one_answer, picks_do_not_matter};
-pub use slice::{Block, Slice, Step, Store};
+pub use laws::{clean_replays_run_in_order, one_answer};

@@ -31,16 +31,18 @@ fn call(
 #[derive(Clone, Copy)]
 struct Asked<'a> {
     source: &'a [u8],
+    input: &'a [u8],
     picks: &'a [u8],
     fuel: &'a str,
     words: &'a str,
     failing: &'a [u64],
 }
 
-// A replay of a source without picks, with fuel and words enough.
+// A replay of a source without numbers, with fuel and words enough.
 fn ample(source: &[u8]) -> Asked<'_> {
     Asked {
         source,
+        input: b"",
         picks: b"",
         fuel: "7",
         words: "100",
@@ -50,7 +52,18 @@ fn ample(source: &[u8]) -> Asked<'_> {
 
 // The status of a replay.
 fn status_of(alloc: Global, asked: &Asked<'_>, out: &mut MemSink) -> Result<u8, AllocError> {
-    let words = ["replay", "s.c", "none", "s.picks", asked.fuel, asked.words];
-    let files = [("s.c", asked.source), ("s.picks", asked.picks)];
+    let words = [
+        "replay",
+        "s.c",
+        "s.input",
+        "s.picks",
+        asked.fuel,
+        asked.words,
+    ];
+    let files = [
+        ("s.c", asked.source),
+        ("s.input", asked.input),
+        ("s.picks", asked.picks),
+    ];
     call(alloc, &words, &files, asked.failing, out)
 }

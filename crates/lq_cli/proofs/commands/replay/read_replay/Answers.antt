@@ -1,4 +1,4 @@
-use Rattle.std.proofs.Common.{List, ℕ, ◌∷◌, map, string_bytes, sym, subst}
+use Rattle.std.proofs.Common.{List, ℕ, sym, subst}
 use Rattle.lq_cli.specs.Words.{AreRoom}
 use Rattle.lq_cli.proofs.Rooms.{behind}
 use Rattle.lq_cli.proofs.commands.replay.read_replay.Goals as goal
@@ -9,6 +9,6 @@ returns-in_err-room-clause-none c =
     (λ asked spelled.
     let first = behind _ _ _ _ _ c.in_ok-words.ensures.some spelled.form in
     let second = behind _ _ _ _ _ c.in_ok-source.ensures.some first in
-    let third = behind _ _ _ _ _ c.in_ok-_input.ensures.some second in
+    let third = behind _ _ _ _ _ c.in_ok-input.ensures.some second in
     let fourth = behind _ _ _ _ _ c.in_ok-picks.ensures.some third in
     c.in_err-room.ensures.none asked.fuel asked.words (subst (λ (last : List (List ℕ)). AreRoom 4194304 last asked.fuel asked.words) (sym fourth) spelled.room))
