@@ -1,5 +1,5 @@
 -- How a run in order enters, goes through and leaves a fork on its stack.
-use Rattle.std.proofs.Common.{◌≡◌, ℕ, zero, suc, ◌+◌, ◌<◌, ◌≤◌, List, [], ◌∷◌, ◌++◌, Option, None, Some, refl, sym, ap, ◌∙◌, subst, arith}
+use Rattle.std.proofs.Common.{◌≡◌, ℕ, suc, ◌+◌, ◌<◌, ◌≤◌, List, [], ◌∷◌, ◌++◌, Option, None, Some, refl, sym, ap, ◌∙◌, subst, arith}
 use Rattle.std.specs.Prelude.{option_map, IsSome, IsNone}
 use Rattle.std.specs.Option.{option_or}
 use Rattle.lq_tree.specs.declared.plain.PProgram.{PProgram}
@@ -15,9 +15,9 @@ use Rattle.lq_meaning.specs.World.{World}
 use Rattle.lq_meaning.specs.Ending.{Trap, Outcome}
 use Rattle.lq_meaning.specs.Control.{Came, Gives, Run, give, go_on, ◌⨾◌}
 use Rattle.lq_meaning.specs.Task.{Task, Tasks, forked}
-use Rattle.lq_meaning.specs.InOrder.{in_order, all_in_order, unless_trapped, come_to}
+use Rattle.lq_meaning.specs.InOrder.{in_order, unless_trapped, come_to}
 use Rattle.lq_meaning.specs.Line.{IsBelow, task_of, children_of, behind_of, standing_of, StandsAt, size_of, task_at}
-use Rattle.lq_meaning.specs.Lines.{trap_of, tasks_from, Level, rejoined, with_trap, IsLevel, Waits, Comes, IsRest, Leaves}
+use Rattle.lq_meaning.specs.Lines.{trap_of, tasks_from, Level, rejoined, with_trap, IsLevel, Waits, IsRest}
 use Rattle.lq_meaning.proofs.Stands.{stands}
 use Rattle.lq_meaning.proofs.TaskOrder.{forked-in_order}
 use Rattle.lq_meaning.proofs.OpenForks.{go_on-go_on, trap_of-or, rejoined_more, rejoined_none, tasks_next, tasks_past, IsBelow-more, Waits-push, Waits-pop, Innermost}

@@ -3,17 +3,15 @@ use Rattle.std.proofs.Common.{◌≡◌, ℕ, zero, suc, ◌+◌, ◌<◌, ◌�
 use Rattle.std.proofs.lemmas.Grind.{common_steps}
 use Rattle.std.proofs.Math.Path.{fun_ext}
 use Rattle.lq_tree.specs.declared.place.Place.{Place}
-use Rattle.lq_tree.specs.declared.trap.TrapKind.{TrapKind}
 use Rattle.std.proofs.lemmas.List.{drop_all}
 use Rattle.lq_tree.specs.declared.plain.PExpr.{PExpr}
 use Rattle.lq_tree.specs.declared.plain.PKind.{Call}
 use Rattle.lq_tree.specs.declared.plain.PProgram.{PProgram}
 use Rattle.lq_meaning.specs.declared.action.Action.TheVariants.{Enter}
 use Rattle.lq_meaning.specs.declared.line.Stop.TheVariants.{Call as CallStop}
-use Rattle.lq_meaning.specs.Operators.{Computes, Fails}
-use Rattle.lq_meaning.specs.Control.{trapped, GoesOn}
+use Rattle.lq_meaning.specs.Operators.{Computes}
+use Rattle.lq_meaning.specs.Control.{GoesOn}
 use Rattle.lq_meaning.specs.PlainMeaning.{Slots, value, into}
-use Rattle.lq_meaning.specs.Task.{Ended}
 use Rattle.lq_meaning.specs.TaskControl.{Next, due}
 use Rattle.lq_meaning.specs.Behaviour.{eval_list, called}
 use Rattle.lq_meaning.specs.Line.{inside_call}

@@ -34,13 +34,13 @@ use Rattle.lq_meaning.proofs.Stacks.{then_next-none, through-push, through-retur
 -- a line that stands, behind another that keeps its turns
 pub stood : (p : PProgram) (before line : Line) (stop : Stop) (task : Tasked) (moves : ℕ) (stands : Bool) (after : Line) → stands ≡ true → after ≡ record line { stop = stop }
     → ((turns : ℕ) → IsBelow turns before → IsBelow turns line)
-    → ((turns : ℕ) (branch : List ℕ) (passed : ℕ) → stopped p turns branch (left_of line) line.frame.slots (onward p turns branch line) passed stop ≡ task turns branch passed)
+    → ((turns : ℕ) (branch : List ℕ) (passed : ℕ) → IsBelow turns before → stopped p turns branch (left_of line) line.frame.slots (onward p turns branch line) passed stop ≡ task turns branch passed)
     → ((turns : ℕ) → IsBelow turns before → FewAtStop turns stop)
     → Moved p before task moves stands after
 unfolding task_of
 stood p before line stop task moves stands after is changed keeps same few =
     rw (is, changed) (record {
-      same = λ turns branch passed below. same turns branch passed;
+      same = same;
       below = λ turns below. let kept : IsBelow turns line = keeps turns below in record { positive = kept.positive; here = kept.here; callers = kept.callers; stop = few turns below };
       lighter = λ moves. absurd (cc moves);
     })
@@ -50,7 +50,7 @@ pub stood_for : (p : PProgram) (line : Line) (stop : Stop) (at : Place) (kind : 
     → StandsFor p at kind line.frame.slots stop → Moved p line (doing p line at kind) moves stands after
 stood_for p line stop at kind moves stands after is changed reason =
     stood p line line stop (doing p line at kind) moves stands after is changed (λ turns below. below)
-    (λ turns branch passed. reason.same turns branch (left_of line) (onward p turns branch line) passed) (λ turns below. reason.few turns)
+    (λ turns branch passed below. reason.same turns branch (left_of line) (onward p turns branch line) passed) (λ turns below. reason.few turns)
 
 -- a line that moved from a task moved from an equal one
 pub moved_as : (p : PProgram) (before : Line) (task other : Tasked) (moves most : ℕ) (stands : Bool) (after : Line)
@@ -98,6 +98,20 @@ chose p line frame row at e body other word aside computes is = record {
       let e : weight (If e body other) ≡ suc (weight_all body + weight_all other) = weight-if e body other in
       let r : weight_all row.now ≡ weight_all (by_truth word body other) = ap weight_all is in
       omega (arith, e, r, chosen_weight word body other, aside.lighter);
+}
+
+-- where it has no statements to go on with, it is as it was
+pub chose_nothing : (p : PProgram) (line : Line) (at : Place) (e : PExpr) (body other : List PStmt) (word : ℤ) → value line.frame.slots e ≡ Computes word → by_truth word body other ≡ []
+    → Moved p line (doing p line at (If e body other)) (weight_of line + suc (weight (If e body other))) false line
+chose_nothing p line at e body other word computes none = record {
+  same = λ turns branch passed below.
+      let c : Context = context_of p turns branch line in
+      let next : Next (Flow Slots) = onward p turns branch line in
+      ap (λ (list : List PStmt). exec_all c list line.frame.slots next passed) (sym none)
+      ∙ ap (λ (run : LineOf (Flow Slots)). run next passed) (chosen c word body other line.frame.slots)
+      ∙ sym (ap (λ (run : LineOf (Flow Slots)). run next passed) (exec-if c at e body other line.frame.slots) ∙ rw computes refl);
+  below = λ turns below. below;
+  lighter = λ moves. omega arith;
 }
 
 -- a function in front of a turn does what is left of its loop
@@ -172,21 +186,43 @@ went_on p line parts row none is = record {
   lighter = λ moves. omega (arith, popped_weight line parts (Row row) is);
 }
 
+-- a part on top that begins with a test stands in front of it
+tested_by : (p : PProgram) (line : Line) (parts : List Part) (x : Part) (repeat : Repeat) (made : ℕ) (stop : Stop) (stands : Bool) (after : Line)
+    → line.frame.row.now ≡ [] → line.frame.parts ≡ parts ++ x ∷ [] → ((turns : ℕ) → FewTurns turns x → made < turns)
+    → ((c : Context) (next : Next (Flow Slots)) (passed : ℕ) → made < c.turns → part c (Test repeat made) line.frame.slots next passed ≡ part c x line.frame.slots next passed)
+    → TestsFor p repeat made line.frame.slots stop
+    → stands ≡ true → after ≡ record line { frame = record line.frame { parts = parts }; stop = stop }
+    → Moved p line (moving p line) (weight_of line) stands after
+tested_by p line parts x repeat made stop stands after none is few begins tests true' changed =
+    let last : Line = record line { frame = record line.frame { parts = parts } } in
+    stood p line last stop (moving p line) (weight_of line) stands after true' changed (λ turns below. (popped_below line parts x turns is below).0)
+    (λ turns branch passed below.
+    let c : Context = context_of p turns branch line in
+    let next : Next (Flow Slots) = through c parts (beneath p turns branch line) in
+    ap (λ (next : Next (Flow Slots)). stopped p turns branch (left_of line) line.frame.slots next passed stop) (ap (λ (row : List PStmt). then_next (exec_all c row) next) none ∙ then_next-none c next)
+    ∙ tests.same turns branch (left_of line) next passed
+    ∙ begins c next passed (few turns (popped_below line parts x turns is below).1)
+    ∙ sym (popped p line parts x none is turns branch passed))
+    (λ turns below. tests.few turns (few turns (popped_below line parts x turns is below).1))
+
 -- a test on top is due
 pub tested : (p : PProgram) (line : Line) (parts : List Part) (repeat : Repeat) (made : ℕ) (stop : Stop) (stands : Bool) (after : Line)
     → line.frame.row.now ≡ [] → line.frame.parts ≡ parts ++ Test repeat made ∷ [] → TestsFor p repeat made line.frame.slots stop
     → stands ≡ true → after ≡ record line { frame = record line.frame { parts = parts }; stop = stop }
     → Moved p line (moving p line) (weight_of line) stands after
-tested p line parts repeat made stop stands after none is tests true' changed =
-    let last : Line = record line { frame = record line.frame { parts = parts } } in
-    stood p line last stop (moving p line) (weight_of line) stands after true' changed (λ turns below. (popped_below line parts (Test repeat made) turns is below).0)
-    (λ turns branch passed.
-    let c : Context = context_of p turns branch line in
-    let next : Next (Flow Slots) = through c parts (beneath p turns branch line) in
-    ap (λ (next : Next (Flow Slots)). stopped p turns branch (left_of line) line.frame.slots next passed stop) (ap (λ (row : List PStmt). then_next (exec_all c row) next) none ∙ then_next-none c next)
-    ∙ tests.same turns branch (left_of line) next passed
-    ∙ sym (popped p line parts (Test repeat made) none is turns branch passed))
-    (λ turns below. tests.few turns (popped_below line parts (Test repeat made) turns is below).1)
+tested p line parts repeat made stop stands after none is =
+    tested_by p line parts (Test repeat made) repeat made stop stands after none is (λ turns few. few) (λ c next passed few. refl)
+
+-- and that of a loop on top whose condition has no statements
+pub tested_again : (p : PProgram) (line : Line) (parts : List Part) (repeat : Repeat) (made : ℕ) (stop : Stop) (stands : Bool) (after : Line)
+    → line.frame.row.now ≡ [] → line.frame.parts ≡ parts ++ Again repeat made ∷ [] → repeat.head.now ≡ [] → TestsFor p repeat made line.frame.slots stop
+    → stands ≡ true → after ≡ record line { frame = record line.frame { parts = parts }; stop = stop }
+    → Moved p line (moving p line) (weight_of line) stands after
+tested_again p line parts repeat made stop stands after none is no_head =
+    tested_by p line parts (Again repeat made) repeat made stop stands after none is (λ turns few. few)
+    (λ c next passed few.
+    ap (λ (head : List PStmt). exec_all c head line.frame.slots (then_next (part c (Test repeat made)) next) passed) (sym no_head)
+    ∙ sym (repeated-turn c repeat made line.frame.slots next passed few))
 
 -- a loop on top goes on
 pub repeated_on : (p : PProgram) (line : Line) (parts : List Part) (repeat : Repeat) (made : ℕ) (last : Frame)
@@ -237,7 +273,7 @@ pub ended : (p : PProgram) (line : Line) (callers : List Caller) (word : Option 
 ended p line callers word stop stands after none still ends true' changed =
     let same : callers ≡ line.callers = still ∙ sym none in
     stood p line line stop (ending p line word) (weight_of line) stands after true' (changed ∙ ap (λ (callers : List Caller). record line { callers = callers; stop = stop }) same) (λ turns below. below)
-    (λ turns branch passed.
+    (λ turns branch passed below.
     ends.same turns branch (left_of line) line.frame.slots (onward p turns branch line) passed
     ∙ sym (ap (λ (callers : List Caller). back_through p turns branch line.most callers (last_end line.in_branch) (flow_of word line.frame.slots) passed) none))
     (λ turns below. ends.few turns)

@@ -100,7 +100,7 @@ entered_nowhere p line function words to word stands after some found true' chan
 -- a line goes on behind an action whose word goes into a slot
 pub resumed-word : (p : PProgram) (line : Line) (action : Action) (at : Place) (to : Option ℕ) (word : ℤ) (slots : Slots) → line.stop ≡ Word action at to → slots ≡ into to line.frame.slots word
     → (turns : ℕ) (branch : List ℕ) (passed : ℕ)
-    → moving p (record line { frame = record line.frame { slots = slots }; stop = UnruledStop }) turns branch passed ≡ answered p turns branch passed line word
+    → moving p (record line { frame = record line.frame { slots = slots } }) turns branch passed ≡ answered p turns branch passed line word
 unfolding answered
 resumed-word p line action at to word slots is put turns branch passed = rw (is, put) refl
 
@@ -114,7 +114,7 @@ resumed-call p line at function words to word is turns branch passed = rw is ref
 -- into a turn of a loop
 pub resumed-turn : (p : PProgram) (line : Line) (repeat : Repeat) (made : ℕ) (word : ℤ) (frame : Frame) → line.stop ≡ TestStop repeat made true → Repeats repeat made line.frame frame
     → (turns : ℕ) (branch : List ℕ) (passed : ℕ)
-    → moving p (record line { frame = frame; stop = UnruledStop }) turns branch passed ≡ answered p turns branch passed line word
+    → moving p (record line { frame = frame }) turns branch passed ≡ answered p turns branch passed line word
 unfolding answered
 resumed-turn p line repeat made word frame is repeats turns branch passed =
     let c : Context = context_of p turns branch line in
@@ -126,7 +126,7 @@ resumed-turn p line repeat made word frame is repeats turns branch passed =
 
 -- or behind a loop
 pub resumed-end : (p : PProgram) (line : Line) (repeat : Repeat) (made : ℕ) (word : ℤ) → line.stop ≡ TestStop repeat made false → (turns : ℕ) (branch : List ℕ) (passed : ℕ)
-    → moving p (record line { stop = UnruledStop }) turns branch passed ≡ answered p turns branch passed line word
+    → moving p line turns branch passed ≡ answered p turns branch passed line word
 unfolding answered
 resumed-end p line repeat made word is turns branch passed = rw is refl
 

@@ -1,5 +1,5 @@
 -- How the branches of the forks on a stack follow one another.
-use Rattle.std.proofs.Common.{◌≡◌, ℕ, zero, suc, ◌+◌, ◌<◌, ◌≤◌, List, [], ◌∷◌, ◌++◌, Option, None, Some, refl, sym, ap, ◌∙◌, subst, add-one, arith, All}
+use Rattle.std.proofs.Common.{◌≡◌, ℕ, zero, suc, ◌+◌, ◌<◌, ◌≤◌, List, [], ◌∷◌, ◌++◌, Option, None, Some, refl, sym, ap, ◌∙◌, add-one, arith, All}
 use Rattle.std.specs.Prelude.{option_map}
 use Rattle.std.specs.Option.{option_or}
 use Rattle.std.proofs.lemmas.List.Elements.{All-weaker}
@@ -13,7 +13,7 @@ use Rattle.lq_meaning.specs.declared.line.Stop.TheVariants.{Done as DoneStop, Tr
 use Rattle.lq_meaning.specs.declared.lines.Caught.{Caught}
 use Rattle.lq_meaning.specs.declared.lines.OpenFork.{OpenFork}
 use Rattle.lq_meaning.specs.World.{World}
-use Rattle.lq_meaning.specs.Ending.{Trap, Outcome}
+use Rattle.lq_meaning.specs.Ending.{Trap}
 use Rattle.lq_meaning.specs.Control.{Came, Gives, Stops, Run, give, go_on, ◌⨾◌}
 use Rattle.lq_meaning.specs.Task.{Task, Tasks, none, more}
 use Rattle.lq_meaning.specs.InOrder.{in_order, all_in_order, unless_trapped}

@@ -10,7 +10,6 @@ use Rattle.lq_tree.specs.declared.plain.PProgram.{PProgram}
 use Rattle.lq_shelf.specs.Sink.{Appends, AppendsPrefix}
 use Rattle.lq_shelf.proofs.Pieces.{Appends-nil, AppendsPrefix-all}
 use Rattle.lq_meaning.specs.declared.heap.Heap.{Heap}
-use Rattle.lq_meaning.specs.declared.line.Line.{Line}
 use Rattle.lq_meaning.specs.declared.lines.OpenFork.{OpenFork}
 use Rattle.lq_meaning.specs.declared.lines.Turn.TheVariants.{Run as RunTurn}
 use Rattle.lq_meaning.specs.declared.run.Halt.{Halt}
@@ -19,11 +18,11 @@ use Rattle.lq_meaning.specs.declared.run.Runner.{Runner}
 use Rattle.lq_meaning.specs.declared.run.Opening.{Opening}
 use Rattle.lq_meaning.specs.declared.run.Opening.TheVariants.{Ready, Refused, Missing}
 use Rattle.lq_meaning.specs.World.{World}
-use Rattle.lq_meaning.specs.Ending.{Trap, Done, Unruled, Outcome}
-use Rattle.lq_meaning.specs.Control.{trapped, Came, Gives, Stops, Run, give, go_on}
+use Rattle.lq_meaning.specs.Ending.{Trap, Unruled, Outcome}
+use Rattle.lq_meaning.specs.Control.{trapped, Came, Gives, Stops, give, go_on}
 use Rattle.lq_meaning.specs.Entry.{input_pointer, start, start_on, arguments, enter}
 use Rattle.lq_meaning.specs.Task.{Task, Ended}
-use Rattle.lq_meaning.specs.Behaviour.{in_function, context, main_task, Beginning, begins, enter_main, bounded}
+use Rattle.lq_meaning.specs.Behaviour.{context, main_task, Beginning, begins, enter_main, bounded}
 use Rattle.lq_meaning.specs.PlainMeaning.{sequential}
 use Rattle.lq_meaning.specs.Tasks.{IsRegular}
 use Rattle.lq_meaning.specs.InOrder.{in_order, come_to, run_in_order}
@@ -31,7 +30,7 @@ use Rattle.lq_meaning.specs.Printed.{number_lines}
 use Rattle.lq_meaning.specs.End.{Tells, IsOfRun, IsSinkFault}
 use Rattle.lq_meaning.specs.Heap.{heap_world}
 use Rattle.lq_meaning.specs.Line.{task_of}
-use Rattle.lq_meaning.specs.Lines.{Waits, IsRest}
+use Rattle.lq_meaning.specs.Lines.{Waits}
 use Rattle.lq_meaning.specs.Runner.{IsUnderWay, Halts, IsBegun, begins_with, Opens, end_of, world_of}
 use Rattle.lq_meaning.proofs.OrderGrows.{regular_rules}
 

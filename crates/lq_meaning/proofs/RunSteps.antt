@@ -1,5 +1,5 @@
 -- What a turn of a run in order makes of a run under way.
-use Rattle.std.proofs.Common.{◌≡◌, ◌≢◌, ℕ, zero, suc, ◌+◌, ◌<◌, ◌≤◌, ℤ, Bool, true, false, nat_lt, if◌then◌else◌, List, [], ◌∷◌, ◌++◌, Option, None, Some, refl, sym, ap, ◌∙◌, subst, add-one, arith}
+use Rattle.std.proofs.Common.{◌≡◌, ℕ, suc, ◌+◌, ◌<◌, ℤ, Bool, true, false, nat_lt, if◌then◌else◌, List, [], ◌∷◌, ◌++◌, Option, Some, refl, sym, ap, ◌∙◌, subst, add-one, arith}
 use Rattle.std.specs.Prelude.{option_map}
 use Rattle.std.proofs.lemmas.List.{append-nil}
 use Rattle.std.proofs.lemmas.List.Concat.{flat_map-append}
@@ -17,26 +17,23 @@ use Rattle.lq_meaning.specs.declared.heap.Acted.TheVariants.{Answer, Trap as Tra
 use Rattle.lq_meaning.specs.declared.heap.Heap.{Heap}
 use Rattle.lq_meaning.specs.declared.line.Line.{Line}
 use Rattle.lq_meaning.specs.declared.line.Standing.{Standing}
-use Rattle.lq_meaning.specs.declared.line.Standing.TheVariants.{Done as IsDone, Trapped as IsTrapped, Unruled as IsUnruled, Due as IsDue, Fork as IsFork}
+use Rattle.lq_meaning.specs.declared.line.Standing.TheVariants.{Due as IsDue}
 use Rattle.lq_meaning.specs.declared.lines.Caught.{Caught}
-use Rattle.lq_meaning.specs.declared.lines.Lines.{Lines}
 use Rattle.lq_meaning.specs.declared.lines.Turn.{Turn}
 use Rattle.lq_meaning.specs.declared.lines.Turn.TheVariants.{Run as RunTurn, Leave}
-use Rattle.lq_meaning.specs.declared.run.Halt.{Halt}
-use Rattle.lq_meaning.specs.declared.run.Halt.TheVariants.{Done as DoneHalt, Trapped as TrappedHalt, Strayed as StrayedHalt, Spent as SpentHalt, Unruled as UnruledHalt, SinkFault, NoMemory}
 use Rattle.lq_meaning.specs.declared.run.Runner.{Runner}
 use Rattle.lq_meaning.specs.World.{World, act}
-use Rattle.lq_meaning.specs.Ending.{Trap, Ending, Done, Trapped, Strayed, Spent, Unruled, Outcome}
+use Rattle.lq_meaning.specs.Ending.{Trap, Ending, Strayed, Spent, Unruled, Outcome}
 use Rattle.lq_meaning.specs.Control.{trapped, Came, Gives, Stops, Run, give, go_on, due}
 use Rattle.lq_meaning.specs.Control as control
 use Rattle.lq_meaning.specs.Laws.{Grows}
 use Rattle.lq_meaning.specs.Laws as law
-use Rattle.lq_meaning.specs.Task.{Task, Ended, Due, Spot}
+use Rattle.lq_meaning.specs.Task.{Task, Ended, Due}
 use Rattle.lq_meaning.specs.InOrder.{answers, in_order, come_to}
 use Rattle.lq_meaning.specs.Printed.{number_line, number_lines}
 use Rattle.lq_meaning.specs.Heap.{heap_world, comes, printed_by}
 use Rattle.lq_meaning.specs.Line.{IsBelow, task_of, answered, standing_of, StandsAt}
-use Rattle.lq_meaning.specs.Lines.{trap_of, Comes, IsRest, Leaves}
+use Rattle.lq_meaning.specs.Lines.{trap_of}
 use Rattle.lq_meaning.specs.Runner.{IsUnderWay, HasEnded, Halts, halt_of, world_of}
 use Rattle.lq_meaning.proofs.Stands.{stands}
 use Rattle.lq_meaning.proofs.OpenForks.{IsBelow-more, Waits-more}

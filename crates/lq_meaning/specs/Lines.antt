@@ -1,5 +1,5 @@
 -- The lines of a run in order on a stack, as the rest of the run (docs/LANGUAGE.md, "Sequential execution").
-use Rattle.std.specs.Prelude.{◌≡◌, ℕ, zero, suc, ◌<◌, ◌≤◌, List, [], ◌∷◌, Option, None, Some, option_map}
+use Rattle.std.specs.Prelude.{◌≡◌, ℕ, zero, suc, ◌≤◌, List, [], ◌∷◌, Option, None, Some, option_map}
 use Rattle.std.specs.Option.{option_or}
 use Rattle.lq_tree.specs.declared.plain.PProgram.{PProgram}
 use Rattle.lq_meaning.specs.declared.line.Line.{Line}

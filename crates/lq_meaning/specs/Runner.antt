@@ -1,6 +1,5 @@
 -- A run in order under way, and how it ends.
-use Rattle.std.specs.Prelude.{◌≡◌, ℕ, zero, suc, ◌<◌, ◌≤◌, ℤ, List, [], ◌∷◌, Option, None, Some}
-use Rattle.lq_tree.specs.declared.place.Place.{Place}
+use Rattle.std.specs.Prelude.{◌≡◌, ℕ, ◌<◌, ℤ, List, [], Option, None, Some}
 use Rattle.lq_tree.specs.declared.trap.TrapKind.TheVariants.{Words}
 use Rattle.lq_tree.specs.declared.plain.PFunc.{PFunc}
 use Rattle.lq_tree.specs.declared.plain.PProgram.{PProgram}
@@ -10,7 +9,6 @@ use Rattle.lq_shelf.specs.Sink.{Appends, AppendsPrefix}
 use Rattle.lq_meaning.specs.declared.end.End.{End}
 use Rattle.lq_meaning.specs.declared.end.End.TheVariants.{Done as DoneEnd, Trap as TrapEnd, Stray as StrayEnd, Fuel as FuelEnd, SinkFault as SinkFaultEnd, NoMemory as NoMemoryEnd}
 use Rattle.lq_meaning.specs.declared.heap.Heap.{Heap}
-use Rattle.lq_meaning.specs.declared.line.Line.{Line}
 use Rattle.lq_meaning.specs.declared.lines.Turn.{Turn}
 use Rattle.lq_meaning.specs.declared.lines.Turn.TheVariants.{Run as RunTurn}
 use Rattle.lq_meaning.specs.declared.run.Halt.{Halt}

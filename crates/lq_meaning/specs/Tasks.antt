@@ -1,6 +1,6 @@
 -- What holds of the tasks of formed programs: each form has a rule, and branches neither print nor allocate (docs/LANGUAGE.md,
 -- "Task tree" and "What holds of a plain program").
-use Rattle.std.specs.Prelude.{◌≡◌, ◌≢◌, ⊤, ℕ, zero, suc, ℤ, Bool, true, false, ◌++◌, List, [], ◌∷◌, IsTrue, not, ◌&&◌}
+use Rattle.std.specs.Prelude.{◌≢◌, ⊤, ℕ, zero, suc, ℤ, Bool, true, false, IsTrue, not, ◌&&◌}
 use Rattle.lq_meaning.specs.declared.action.Action.{Action}
 use Rattle.lq_meaning.specs.declared.action.Action.TheVariants.{Allocate, Print}
 use Rattle.lq_meaning.specs.Ending.{Ending, Spent, Unruled}

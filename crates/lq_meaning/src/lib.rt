@@ -12,6 +12,7 @@ mod lines;
 mod memory;
 mod operators;
 mod pointer;
+mod printing;
 mod run;
 #[cfg(test)]
 mod tests;
@@ -29,5 +30,7 @@ pub use laws::{
 };
 pub use line::{Line, Standing};
 pub use memory::{Address, Block, Memory};
+pub use pointer::input_pointer;
+pub use printing::put_action;
 pub use run::run_seq;
 pub use words::Words;

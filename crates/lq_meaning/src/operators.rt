@@ -10,6 +10,7 @@ use crate::pointer::{block_of, offset_of};
 use lq_tree::{BinOp, TrapKind};
 
 /// 1 for true, 0 for false.
+#[inline]
 pub fn truth(holds: bool) -> i64
     ensures { result ≡ spec.truth holds }
 {
@@ -17,6 +18,7 @@ pub fn truth(holds: bool) -> i64
 }
 
 /// Whether a word is 0, which is false, or null.
+#[inline]
 pub fn is_zero(word: i64) -> bool
     ensures { result ≡ spec.is_zero word }
 {
@@ -50,6 +52,7 @@ fn remainder(x: i64, y: i64) -> Result<i64, TrapKind>
 }
 
 // A result that is a word.
+#[inline]
 fn fitting(word: Option<i64>) -> Result<i64, TrapKind>
     ensures some { IfSome word (λ x. result ≡ Ok x) }
     ensures none { IfNone word (result ≡ Err Overflow) }
@@ -61,6 +64,7 @@ fn fitting(word: Option<i64>) -> Result<i64, TrapKind>
 }
 
 /// The opposite number.
+#[inline]
 pub fn negation(x: i64) -> Result<i64, TrapKind>
     ensures { says result ≡ spec.negation x }
 {
@@ -68,6 +72,7 @@ pub fn negation(x: i64) -> Result<i64, TrapKind>
 }
 
 /// An operator of two ints; of `&&` and `||` here both sides are known.
+#[inline(always)]
 pub fn arithmetic(op: BinOp, x: i64, y: i64) -> Result<i64, TrapKind>
     ensures { says result ≡ spec.arithmetic op x y }
 {
@@ -89,6 +94,7 @@ pub fn arithmetic(op: BinOp, x: i64, y: i64) -> Result<i64, TrapKind>
 }
 
 /// A pointer so many elements further on; null goes nowhere.
+#[inline]
 pub fn shifted(pointer: i64, n: i64) -> Result<i64, TrapKind>
     ensures { says result ≡ spec.shifted pointer n }
 {

@@ -9,20 +9,20 @@ ghost use Rattle.lq_meaning.specs.Ending.{Unruled, Outcome};
 ghost use Rattle.lq_meaning.specs.PlainMeaning.{sequential as plain_sequential};
 ghost use Rattle.lq_meaning.specs.Behaviour.{bounded, context, main_task};
 ghost use Rattle.lq_meaning.specs.InOrder.{run_in_order};
-ghost use Rattle.lq_meaning.specs.Heap.{heap_world, printed_by};
+ghost use Rattle.lq_meaning.specs.Heap.{heap_world};
 ghost use Rattle.lq_meaning.specs.Line.{standing_of};
 ghost use Rattle.lq_meaning.specs.End.{Tells, IsOfRun, IsSinkFault};
-ghost use Rattle.lq_meaning.specs.Printed.{number_line, number_lines};
-ghost use Rattle.lq_meaning.specs.Entry as spec;
+ghost use Rattle.lq_meaning.specs.Printed.{number_lines};
 ghost use Rattle.lq_meaning.specs.Runner.{IsUnderWay, Halts, Opens, begins_with, end_of};
 
 use crate::heap::{Acted, Heap};
 use crate::laws::{formed_programs_have_regular_tasks, tasks_in_order};
 use crate::line::{Line, Standing};
 use crate::lines::{Caught, Lines, Turn};
+use crate::pointer::input_pointer;
+use crate::printing::put_action;
 use crate::{Action, End, Memory};
 use lq_shelf::{Put, Sink};
-use lq_text::put_number;
 use lq_tree::{PFunc, PProgram, Place, TrapKind};
 use std::alloc::{AllocError, Global};
 
@@ -58,32 +58,6 @@ impl From<Put> for Halt {
             Put::Failed => Halt::SinkFault,
             Put::NoMemory => Halt::NoMemory,
         }
-    }
-}
-
-// Writes the line of a number, as one piece.
-fn put_line<K: Sink>(alloc: Global, number: i64, out: &mut K) -> Result<(), Put>
-    ensures ok { OnOk result (Appends (K.written out.old) (K.written out.new) (number_line number)) }
-    ensures prefix { AppendsPrefix (K.written out.old) (K.written out.new) (number_line number) }
-    ensures failed { IsErrOf result Put.Failed → Rose (K.faults out.old) (K.faults out.new) }
-    ensures other { (IsErrOf result Put.Failed → ⊥) → K.faults out.new ≡ K.faults out.old }
-{
-    let mut line = Vec::new(alloc);
-    put_number(&mut line, number)?;
-    line.extend_from_slice(b"\n")?;
-    out.put(&line)
-}
-
-// Writes the line of an action that prints. Other actions write nothing.
-fn put_action<K: Sink>(alloc: Global, action: Action, out: &mut K) -> Result<(), Put>
-    ensures ok { OnOk result (Appends (K.written out.old) (K.written out.new) (number_lines (printed_by action []))) }
-    ensures prefix { AppendsPrefix (K.written out.old) (K.written out.new) (number_lines (printed_by action [])) }
-    ensures failed { IsErrOf result Put.Failed → Rose (K.faults out.old) (K.faults out.new) }
-    ensures other { (IsErrOf result Put.Failed → ⊥) → K.faults out.new ≡ K.faults out.old }
-{
-    match action {
-        Action::Print { number } => put_line(alloc, number, out),
-        _ => Ok(()),
     }
 }
 
@@ -186,6 +160,9 @@ impl<'a> Runner<'a> {
         ensures failed { result ≡ Halt.SinkFault → Rose (K.faults out.old) (K.faults out.new) }
         ensures other { result ≢ Halt.SinkFault → K.faults out.new ≡ K.faults out.old }
     {
+        // Turns are counted since no measure is proved: one with an action adds to the cost, which the fuel bounds, and one
+        // without makes the tree of what is left smaller. The count of 2^64 stands in for that measure; behind it, where no
+        // run comes, the answer is want of memory.
         let mut turn = Turn::Run;
         for _ in 0..u64::MAX {
             match self.turn(alloc, p, fuel, turn, out) {
@@ -244,13 +221,6 @@ fn begin<'a>(
         cost: 0,
         lines: Lines::new(alloc, line),
     }))
-}
-
-// The pointer to the input, or null where it is empty.
-fn input_pointer(input: &[i64]) -> i64
-    ensures { result ≡ spec.input_pointer input.now }
-{
-    if input.is_empty() { 0 } else { 1 << 32 }
 }
 
 // How the run of a program begins on an input.

@@ -1,6 +1,6 @@
 //! How a line begins, and how it goes on from where it stands.
 
-ghost use Rattle.std.specs.Prelude.{◌≡◌, ℕ, suc, [], List, OnOk, IfOk};
+ghost use Rattle.std.specs.Prelude.{◌≡◌, ℕ, ℤ, suc, [], List, Option, OnOk, IfOk};
 ghost use Rattle.lq_tree.specs.declared.place.Place.{Place};
 ghost use Rattle.lq_meaning.specs.declared.action.Action.{Action};
 ghost use Rattle.lq_meaning.specs.declared.line.Standing.TheVariants.{Due};
@@ -87,32 +87,49 @@ impl<'a> Line<'a> {
         Ok(false)
     }
 
-    // Takes the word of the action that is due.
-    pub(super) fn resume(&mut self, p: &'a PProgram, word: i64) -> Result<bool, AllocError>
-        ensures same { IfOk result (λ stands. (action : Action) (at : Place) (turns : ℕ) (branch : List ℕ) (passed : ℕ) → standing_of self.old ≡ Due action at
+    // Takes the word of a call that is due.
+    fn resume_call(&mut self, p: &'a PProgram, word: i64) -> Result<bool, AllocError>
+        ensures same { IfOk result (λ stands. (at : Place) (function : ℕ) (words : List ℤ) (to : Option ℕ) (turns : ℕ) (branch : List ℕ) (passed : ℕ) → self.old.stop ≡ of_stop.Call at function words to
             → came_to stands p.now self.new turns branch passed ≡ answered p.now turns branch passed self.old word) }
         ensures below { OnOk result ((turns : ℕ) → IsBelow turns self.old → IsBelow (suc turns) self.new) }
     {
         match mem::replace(&mut self.stop, Stop::Unruled) {
-            Stop::Word { to, .. } => put(&mut self.frame.slots, to, word),
             Stop::Call {
                 function,
                 words,
                 to,
                 ..
-            } => return self.enter(p, function, words, to, word),
+            } => self.enter(p, function, words, to, word),
+            stop => Ok(self.stand(stop)),
+        }
+    }
+
+    // Takes the word of the action that is due. Where it is no call, nothing is moved out of the line.
+    pub(super) fn resume(&mut self, p: &'a PProgram, word: i64) -> Result<bool, AllocError>
+        ensures same { IfOk result (λ stands. (action : Action) (at : Place) (turns : ℕ) (branch : List ℕ) (passed : ℕ) → standing_of self.old ≡ Due action at
+            → came_to stands p.now self.new turns branch passed ≡ answered p.now turns branch passed self.old word) }
+        ensures below { OnOk result ((turns : ℕ) → IsBelow turns self.old → IsBelow (suc turns) self.new) }
+    {
+        match &self.stop {
+            Stop::Word { to, .. } => {
+                let to = *to;
+                put(&mut self.frame.slots, to, word);
+                Ok(false)
+            }
             Stop::Test {
                 repeat,
                 made,
                 holds,
             } => {
+                let (repeat, made, holds) = (*repeat, *made, *holds);
                 if !holds {
                     return Ok(false);
                 }
                 self.frame.repeat(repeat, made)?;
+                Ok(false)
             }
-            stop => return Ok(self.stand(stop)),
+            Stop::Call { .. } => self.resume_call(p, word),
+            _ => Ok(true),
         }
-        Ok(false)
     }
 }

@@ -153,8 +153,12 @@ impl<'a> Line<'a> {
     {
         match value(self.frame.slots.as_slice(), e) {
             Ok(word) => {
+                let row = by_truth(word, body, other);
+                if row.is_empty() {
+                    return Ok(false);
+                }
                 self.frame.set_aside()?;
-                self.frame.row = by_truth(word, body, other);
+                self.frame.row = row;
                 Ok(false)
             }
             Err(kind) => Ok(self.stand(Stop::Trapped { kind, at })),
@@ -213,6 +217,10 @@ impl<'a> Line<'a> {
                 Ok(self.stand(stop))
             }
             Some(Part::Again(repeat, made)) => {
+                if repeat.head.is_empty() {
+                    let stop = test(self.frame.slots.as_slice(), repeat, made);
+                    return Ok(self.stand(stop));
+                }
                 self.frame.turn(repeat, made)?;
                 Ok(false)
             }

@@ -1,4 +1,4 @@
-use Rattle.std.proofs.Common.{◌≡◌, ℕ, ◌<◌, List, ℤ, Some, refl, sym, subst}
+use Rattle.std.proofs.Common.{◌≡◌, Some, refl, sym, subst}
 use Rattle.lq_meaning.specs.declared.line.Line.{Line}
 use Rattle.lq_meaning.specs.Ending.{Done}
 use Rattle.lq_meaning.specs.Task.{Ended}

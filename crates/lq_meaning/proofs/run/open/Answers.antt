@@ -1,4 +1,4 @@
-use Rattle.std.proofs.Common.{◌≡◌, ℕ, suc, List, ℤ, [], length, to_z, of_z, w64, subst, ◌∙◌, sym, rules, arith}
+use Rattle.std.proofs.Common.{ℕ, suc, List, ℤ, [], length, to_z, of_z, w64, subst, ◌∙◌, sym, rules, arith}
 use Rattle.std.proofs.lemmas.Int.{to_z-of_z, ints}
 use Rattle.std.specs.Prelude.{IfOk}
 use Rattle.std.proofs.lemmas.Result.{IfOk-weaker}

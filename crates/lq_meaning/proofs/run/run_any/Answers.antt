@@ -1,6 +1,6 @@
-use Rattle.std.proofs.Common.{◌≡◌, ℕ, suc, List, Option, [], sym, ap, ◌∙◌, subst, arith}
+use Rattle.std.proofs.Common.{◌≡◌, Option, sym, ap, ◌∙◌, subst, arith}
 use Rattle.std.specs.Prelude.{IfSome, IfNone, IsSomeAnd}
-use Rattle.lq_shelf.specs.Sink.{Appends, AppendsPrefix}
+use Rattle.lq_shelf.specs.Sink.{Appends}
 use Rattle.lq_shelf.proofs.Pieces.{Appends-nil}
 use Rattle.lq_meaning.specs.declared.end.End.{End}
 use Rattle.lq_meaning.specs.Ending.{Unruled, Outcome}

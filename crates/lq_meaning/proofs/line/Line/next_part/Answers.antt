@@ -1,7 +1,9 @@
-use Rattle.std.proofs.Common.{subst}
+use Rattle.std.proofs.Common.{subst, sym, ◌∙◌}
+use Rattle.std.proofs.lemmas.Bool.{eqb-true}
+use Rattle.std.proofs.lemmas.List.{nil_from_length}
 use Rattle.std.specs.Prelude.{List, ℤ}
 use Rattle.lq_meaning.specs.Moves.{TestsFor}
-use Rattle.lq_meaning.proofs.LineMoves.{at_end, went_on, tested, repeated_on}
+use Rattle.lq_meaning.proofs.LineMoves.{at_end, went_on, tested, tested_again, repeated_on}
 use Rattle.lq_meaning.proofs.line.Line.next_part.Goals as goal
 
 pub returns-in-None : goal.returns-in-None
@@ -14,6 +16,12 @@ pub returns-in-Some-Test : goal.returns-in-Some-Test
 returns-in-Some-Test c p =
     tested p c.args.self.now c.pop.new.self c.in-Some-Test.repeat c.in-Some-Test.made c.test-stop.result _ _ c.requires (rw c.in-Some-Test.field-0-is at c.in-Some-Test.ensures)
     (subst (λ (slots : List ℤ). TestsFor p c.in-Some-Test.repeat c.in-Some-Test.made slots c.test-stop.result) c.as_slice.ensures (c.test-stop.ensures p)) c.stand.ensures.value c.stand.ensures.after
+
+pub returns-then-is_empty : goal.returns-then-is_empty
+returns-then-is_empty c p =
+    let no_head = nil_from_length c.in-Some-Again.repeat.head.now (eqb-true _ _ (sym c.is_empty.ensures ∙ c.if-is_empty.true)) in
+    tested_again p c.args.self.now c.pop.new.self c.in-Some-Again.repeat c.in-Some-Again.made c.test-stop-then-is_empty.result _ _ c.requires (rw c.in-Some-Again.field-0-is at c.in-Some-Again.ensures) no_head
+    (subst (λ (slots : List ℤ). TestsFor p c.in-Some-Again.repeat c.in-Some-Again.made slots c.test-stop-then-is_empty.result) c.as_slice-then-is_empty.ensures (c.test-stop-then-is_empty.ensures p)) c.stand-then-is_empty.ensures.value c.stand-then-is_empty.ensures.after
 
 pub returns-in_ok-turn-in-Some-Again : goal.returns-in_ok-turn-in-Some-Again
 returns-in_ok-turn-in-Some-Again c p =

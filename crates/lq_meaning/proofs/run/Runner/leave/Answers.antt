@@ -1,9 +1,9 @@
-use Rattle.std.proofs.Common.{◌≡◌, ◌∙◌, ap, refl, subst, None, Some, Option}
+use Rattle.std.proofs.Common.{refl, subst, None, Some, Option}
 use Rattle.std.proofs.lemmas.Result.{err_from_is_err_and}
 use Rattle.lq_meaning.specs.declared.lines.Caught.{Caught}
 use Rattle.lq_meaning.specs.declared.lines.Turn.{Turn}
 use Rattle.lq_meaning.specs.declared.lines.Turn.TheVariants.{Leave}
-use Rattle.lq_meaning.specs.Ending.{Done, Trapped, Outcome}
+use Rattle.lq_meaning.specs.Ending.{Done, Trapped}
 use Rattle.lq_meaning.specs.Lines.{trap_of, Leaves}
 use Rattle.lq_meaning.specs.Runner.{world_of}
 use Rattle.lq_meaning.proofs.RunSteps.{broken_off, whole_done}

@@ -1,7 +1,7 @@
-use Rattle.std.proofs.Common.{◌≡◌, ℕ, List, Option, None, Some, refl, subst, arith}
+use Rattle.std.proofs.Common.{ℕ, List, Option, subst}
 use Rattle.std.proofs.lemmas.Result.{err_from_is_err_and, IfOk-weaker, IfErr-weaker}
 use Rattle.lq_meaning.specs.declared.lines.Turn.{Turn}
-use Rattle.lq_meaning.specs.declared.lines.Turn.TheVariants.{Run, Leave}
+use Rattle.lq_meaning.specs.declared.lines.Turn.TheVariants.{Leave}
 use Rattle.lq_meaning.specs.declared.run.Halt.{Halt}
 use Rattle.lq_meaning.specs.Ending.{Outcome}
 use Rattle.lq_meaning.specs.Runner.{IsUnderWay, Halts}
