@@ -21,6 +21,12 @@ get-set_other (y ∷ xs) zero (suc k) x other = refl
 get-set_other (y ∷ xs) (suc i) zero x other = refl
 get-set_other (y ∷ xs) (suc i) (suc k) x other = get-set_other xs i k x (λ same. other (ap suc same))
 
+-- an element that is written where it was
+pub set-found : {A : Type 0} (xs : List A) (i : ℕ) (x : A) → slice_get xs i ≡ Some x → slice_set xs i x ≡ xs
+set-found [] i x there = refl
+set-found {A = A} (y ∷ xs) zero x there = let same : x ≡ y = cc in ap (λ (z : A). z ∷ xs) same
+set-found {A = A} (y ∷ xs) (suc i) x there = ap (λ (l : List A). y ∷ l) (set-found xs i x there)
+
 -- an element that is pushed, and the others
 pub get-push : {A : Type 0} (xs : List A) (x : A) → slice_get (xs ++ x ∷ []) (length xs) ≡ Some x
 get-push [] x = refl

@@ -1,5 +1,5 @@
 -- How the nodes of a way are made anew, up to the root.
-use Rattle.std.proofs.Common.{◌≡◌, ℕ, ◌+◌, ◌<◌, ◌≤◌, List, [], ◌∷◌, ◌++◌, length, None, Some, refl, sym, ap, ◌∙◌, subst, ⊎_elim, arith, add-one}
+use Rattle.std.proofs.Common.{◌≡◌, ℕ, ◌+◌, ◌<◌, ◌≤◌, List, [], ◌∷◌, ◌++◌, length, false, None, Some, refl, sym, ap, ◌∙◌, subst, ⊎_elim, arith, add-one}
 use Rattle.std.specs.Prelude.{slice_get, slice_set}
 use Rattle.std.proofs.lemmas.Bool.{cases_eq, cases_lt}
 use Rattle.std.proofs.lemmas.Option.{slice_get_within}
@@ -10,13 +10,13 @@ use Rattle.lq_meaning.specs.declared.line.Standing.TheVariants.{Fork as IsFork}
 use Rattle.lq_meaning.specs.Line.{standing_of, IsBelow}
 use Rattle.lq_machine.specs.declared.machine.forest.Counts.{Counts}
 use Rattle.lq_machine.specs.declared.machine.forest.Kind.{Kind}
-use Rattle.lq_machine.specs.declared.machine.forest.Kind.TheVariants.{Fork, Pair}
+use Rattle.lq_machine.specs.declared.machine.forest.Kind.TheVariants.{Over, Leaf, Fork, Pair}
 use Rattle.lq_machine.specs.declared.machine.forest.Node.{Node}
-use Rattle.lq_machine.specs.Forest.{Tree, pair, root, once, uses, tasks_of, counts_at, counts_both, Has, Fits}
+use Rattle.lq_machine.specs.Forest.{Tree, pair, root, once, uses, tasks_of, counts_at, counts_above, counts_both, IsTold, Has, Fits}
 use Rattle.lq_machine.specs.Around.{Crumb, under, left_of, right_of, crumb_node, way_of, uses_beside, branches_in, around, FitsCrumb, FitsAround, Changes, HasTree, HasAround, Settles, Closes, IsAnew, Rises}
 use Rattle.lq_machine.proofs.Trees.{counts_root}
-use Rattle.lq_machine.proofs.Frames.{get-set, get-set_other, once-same, fits-same, around-same, around-past}
-use Rattle.lq_machine.proofs.Seats.{node_with}
+use Rattle.lq_machine.proofs.Frames.{set-found, get-set, get-set_other, once-same, fits-same, around-same, around-past}
+use Rattle.lq_machine.proofs.Seats.{node_with, closes_open}
 
 -- the node around a hole is one of those beside it
 pub beside-node : (crumb : Crumb) → 1 ≤ uses_beside (crumb_node crumb) crumb
@@ -102,49 +102,67 @@ module _ (p : PProgram) (most : ℕ) (a b c : List Node) (node : ℕ) (line : Li
         tasks = made_crumb.tasks;
       }
 
--- a pair made anew
-module _ (p : PProgram) (most : ℕ) (a b : List Node) (node left right : ℕ) (found put : Node) (there : slice_get a node ≡ Some found) (is : found.kind ≡ Pair left right) (taken : b ≡ slice_set a node put) where
-  within_b : node < length b
-  within_b = omega (arith, slice_get_within a node found there, ap (λ (l : List Node). length l) taken, length-set a node put)
+-- a fork whose children haven't all ended
+pub anew_open : (p : PProgram) (most : ℕ) (nodes : List Node) (node : ℕ) (line : Line) (children : ℕ) (found : Node) → slice_get nodes node ≡ Some found → found.kind ≡ Fork line children
+    → (counts_at nodes children).ended ≡ false → (crumb : Crumb) (below : Tree) → crumb_node crumb ≡ node → FitsCrumb nodes most crumb (root below) → Fits nodes most below
+    → ((k : ℕ) → uses_beside k crumb + uses k below ≤ 1)
+    → IsAnew p most nodes (slice_set nodes node (node_with found.number found.passed (Fork line children) (counts_above (counts_at nodes children)))) crumb below
+anew_open p most nodes node line children found there is open' =
+    anew_fork p most nodes nodes (slice_set nodes node (node_with found.number found.passed (Fork line children) (counts_above (counts_at nodes children)))) node line children found found there is (sym (set-found nodes node found there))
+    (λ below is_fork few has free.
+    anew_closed p most nodes _ node found.number found.passed line below
+    (closes_open p most nodes node found.number found.passed line below (slice_get_within nodes node found there) free is_fork few children has open'))
 
-  fits_b : (tree : Tree) → uses node tree ≡ 0 → Fits a most tree → Fits b most tree
-  fits_b tree free fits = subst (λ (l : List Node). Fits l most tree) (sym taken) (fits-put a most node put tree free fits)
-
+-- a pair
+module _ (p : PProgram) (most : ℕ) (nodes : List Node) (node left right : ℕ) (found : Node) (there : slice_get nodes node ≡ Some found) (is : found.kind ≡ Pair left right) where
   abbrev pub paired : List Node
-  paired = slice_set b node (node_with found.number found.passed (Pair left right) (counts_both (counts_at b left) (counts_at b right)))
+  paired = slice_set nodes node (node_with found.number found.passed (Pair left right) (counts_both (counts_at nodes left) (counts_at nodes right)))
 
-  pub anew_pair : (crumb : Crumb) (below : Tree) → crumb_node crumb ≡ node → FitsCrumb a most crumb (root below) → Fits a most below → ((k : ℕ) → uses_beside k crumb + uses k below ≤ 1) → IsAnew p most a paired crumb below
-  anew_pair (under n k f line) below at fits_crumb fits once' = absurd (let e = ap (λ (x : Node). x.kind) (found_is a n node k f _ _ found fits_crumb.0.1 at there) ∙ is in cc)
+  within : node < length nodes
+  within = slice_get_within nodes node found there
+
+  pub anew_pair : (crumb : Crumb) (below : Tree) → crumb_node crumb ≡ node → FitsCrumb nodes most crumb (root below) → Fits nodes most below → ((k : ℕ) → uses_beside k crumb + uses k below ≤ 1)
+      → IsAnew p most nodes paired crumb below
+  anew_pair (under n k f line) below at fits_crumb fits once' = absurd (let e = ap (λ (x : Node). x.kind) (found_is nodes n node k f _ _ found fits_crumb.0.1 at there) ∙ is in cc)
   anew_pair (left_of n k f other) below at fits_crumb fits once' =
-      let same = found_is a n node k f (Pair (root below) (root other)) fits_crumb.0.0 found fits_crumb.0.1 at there in
+      let same = found_is nodes n node k f (Pair (root below) (root other)) fits_crumb.0.0 found fits_crumb.0.1 at there in
       let kinds : Pair (root below) (root other) ≡ Pair left right = ap (λ (x : Node). x.kind) same ∙ is in
       let number : k ≡ found.number = ap (λ (x : Node). x.number) same in
       let passed : f ≡ found.passed = ap (λ (x : Node). x.passed) same in
-      let lists : slice_set b n (node_with k f (Pair (root below) (root other)) (counts_both (counts_at b (root below)) (counts_at b (root other)))) ≡ paired = cc in
-      let here = once-same n in
-      let free : (uses node below ≡ 0) × (uses node other ≡ 0) = subst (λ (m : ℕ). (uses m below ≡ 0) × (uses m other ≡ 0)) at (omega (arith, once' n, here), omega (arith, once' n, here)) in
-      subst (λ (new : List Node). IsAnew p most a new (left_of n k f other) below) lists
+      let lists : slice_set nodes n (node_with k f (Pair (root below) (root other)) (counts_both (counts_at nodes (root below)) (counts_at nodes (root other)))) ≡ paired = cc in
+      subst (λ (new : List Node). IsAnew p most nodes new (left_of n k f other) below) lists
       (record {
         tree = pair n k f below other;
-        has = has_pair b most n k f below other (omega (arith, within_b, at)) (fits_b below free.0 fits) (fits_b other free.1 fits_crumb.1) (λ i. omega (arith, once' i));
+        has = has_pair nodes most n k f below other (omega (arith, within, at)) fits fits_crumb.1 (λ i. omega (arith, once' i));
         fresh = λ i within. omega arith;
         tasks = λ turns branches above. refl;
       })
   anew_pair (right_of n k f other) below at fits_crumb fits once' =
-      let same = found_is a n node k f (Pair (root other) (root below)) fits_crumb.0.0 found fits_crumb.0.1 at there in
+      let same = found_is nodes n node k f (Pair (root other) (root below)) fits_crumb.0.0 found fits_crumb.0.1 at there in
       let kinds : Pair (root other) (root below) ≡ Pair left right = ap (λ (x : Node). x.kind) same ∙ is in
       let number : k ≡ found.number = ap (λ (x : Node). x.number) same in
       let passed : f ≡ found.passed = ap (λ (x : Node). x.passed) same in
-      let lists : slice_set b n (node_with k f (Pair (root other) (root below)) (counts_both (counts_at b (root other)) (counts_at b (root below)))) ≡ paired = cc in
-      let here = once-same n in
-      let free : (uses node below ≡ 0) × (uses node other ≡ 0) = subst (λ (m : ℕ). (uses m below ≡ 0) × (uses m other ≡ 0)) at (omega (arith, once' n, here), omega (arith, once' n, here)) in
-      subst (λ (new : List Node). IsAnew p most a new (right_of n k f other) below) lists
+      let lists : slice_set nodes n (node_with k f (Pair (root other) (root below)) (counts_both (counts_at nodes (root other)) (counts_at nodes (root below)))) ≡ paired = cc in
+      subst (λ (new : List Node). IsAnew p most nodes new (right_of n k f other) below) lists
       (record {
         tree = pair n k f other below;
-        has = has_pair b most n k f other below (omega (arith, within_b, at)) (fits_b other free.1 fits_crumb.1) (fits_b below free.0 fits) (λ i. omega (arith, once' i));
+        has = has_pair nodes most n k f other below (omega (arith, within, at)) fits_crumb.1 fits (λ i. omega (arith, once' i));
         fresh = λ i within. omega arith;
         tasks = λ turns branches above. refl;
       })
+
+-- a node of which is told anew what is below it
+pub anew_told : (p : PProgram) (most : ℕ) (nodes : List Node) (node : ℕ) (found : Node) (counts : Counts) → slice_get nodes node ≡ Some found → (kind : Kind) → found.kind ≡ kind → IsTold nodes kind counts
+    → (crumb : Crumb) (below : Tree) → crumb_node crumb ≡ node → FitsCrumb nodes most crumb (root below) → Fits nodes most below → ((k : ℕ) → uses_beside k crumb + uses k below ≤ 1)
+    → IsAnew p most nodes (slice_set nodes node (record found { counts = counts })) crumb below
+anew_told p most nodes node found counts there (Pair left right) is told crumb below at fits_crumb fits once' =
+    let put : record found { counts = counts } ≡ node_with found.number found.passed (Pair left right) (counts_both (counts_at nodes left) (counts_at nodes right)) = cc in
+    subst (λ (put : Node). IsAnew p most nodes (slice_set nodes node put) crumb below) (sym put) (anew_pair p most nodes node left right found there is crumb below at fits_crumb fits once')
+anew_told p most nodes node found counts there (Fork line children) is (open', told) crumb below at fits_crumb fits once' =
+    let put : record found { counts = counts } ≡ node_with found.number found.passed (Fork line children) (counts_above (counts_at nodes children)) = cc in
+    subst (λ (put : Node). IsAnew p most nodes (slice_set nodes node put) crumb below) (sym put) (anew_open p most nodes node line children found there is open' crumb below at fits_crumb fits once')
+anew_told p most nodes node found counts there (Leaf line) is told crumb below at fits_crumb fits once' = absurd told
+anew_told p most nodes node found counts there (Over trap) is told crumb below at fits_crumb fits once' = absurd told
 
 -- the way of what is around a hole, from its end
 last-same : (xs ys : List ℕ) (x y : ℕ) → xs ++ x ∷ [] ≡ ys ++ y ∷ [] → (xs ≡ ys) × (x ≡ y)

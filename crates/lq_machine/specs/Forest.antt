@@ -96,6 +96,12 @@ counts_in (Some node) = node.counts
 abbrev pub counts_at : List Node → ℕ → Counts
 counts_at nodes node = counts_in (slice_get nodes node)
 
+-- this is told of a pair, or of a fork whose children haven't all ended
+abbrev pub IsTold : List Node → Kind → Counts → Type 0
+IsTold nodes (Pair left right) counts = counts ≡ counts_both (counts_at nodes left) (counts_at nodes right)
+IsTold nodes (Fork line children) counts = ((counts_at nodes children).ended ≡ false) × (counts ≡ counts_above (counts_at nodes children))
+IsTold nodes kind counts = ⊥
+
 -- the line goes on without a fork, or has no rule
 abbrev pub IsSettled : Standing → Type 0
 IsSettled (IsDue action at) = Unit {0}

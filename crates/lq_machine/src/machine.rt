@@ -4,16 +4,13 @@ ghost use Rattle.std.specs.Prelude.{◌≡◌, ◌<◌, ◌≤◌, ◌+◌, ◌+
 ghost use Rattle.std.specs.Option.{option_to_list};
 ghost use Rattle.lq_tree.specs.declared.plain.PProgram.{PProgram};
 ghost use Rattle.lq_shelf.specs.Faults.{Rose};
-ghost use Rattle.lq_shelf.specs.Sink.{Appends, AppendsPrefix};
 ghost use Rattle.lq_meaning.specs.declared.heap.Heap.{Heap};
 ghost use Rattle.lq_meaning.specs.Behaviour.{context, main_task};
 ghost use Rattle.lq_meaning.specs.Control.{trapped};
-ghost use Rattle.lq_meaning.specs.Entry.{input_pointer};
 ghost use Rattle.lq_meaning.specs.Entry as spec;
 ghost use Rattle.lq_meaning.specs.declared.line.Standing.TheVariants.{Due};
-ghost use Rattle.lq_meaning.specs.Heap.{heap_world, printed_by};
+ghost use Rattle.lq_meaning.specs.Heap.{heap_world};
 ghost use Rattle.lq_meaning.specs.Line.{task_of, standing_of, IsBelow};
-ghost use Rattle.lq_meaning.specs.Printed.{number_line, number_lines};
 ghost use Rattle.lq_meaning.specs.Task.{Task, Ended};
 ghost use Rattle.lq_machine.specs.declared.machine.StepFault.TheVariants.{SinkFault};
 ghost use Rattle.lq_machine.specs.Forest.{over_by};
@@ -23,9 +20,8 @@ ghost use Rattle.lq_machine.specs.Machine.{Stands, runnable_in, machine_world, B
 
 use crate::machine::forest::{DEEPEST, Forest, Seat};
 use lq_log::{Entry, Path};
-use lq_meaning::{Acted, Action, Address, Heap, Line, Standing};
+use lq_meaning::{Acted, Action, Address, Heap, Line, Standing, input_pointer, put_action};
 use lq_shelf::{Put, Sink};
-use lq_text::put_number;
 use lq_tree::{PFunc, PProgram, Place, TrapKind};
 use std::alloc::{AllocError, Global};
 
@@ -81,39 +77,6 @@ pub struct Machine<'a> {
     stray: Option<Place>,
     // The nodes above the leaf of a step, kept for the memory that they take.
     way: Vec<usize>,
-}
-
-// Writes the line of a number, as one piece.
-fn put_line<K: Sink>(alloc: Global, number: i64, out: &mut K) -> Result<(), Put>
-    ensures ok { OnOk result (Appends (K.written out.old) (K.written out.new) (number_line number)) }
-    ensures prefix { AppendsPrefix (K.written out.old) (K.written out.new) (number_line number) }
-    ensures failed { IsErrOf result Put.Failed → Rose (K.faults out.old) (K.faults out.new) }
-    ensures other { (IsErrOf result Put.Failed → ⊥) → K.faults out.new ≡ K.faults out.old }
-{
-    let mut line = Vec::new(alloc);
-    put_number(&mut line, number)?;
-    line.extend_from_slice(b"\n")?;
-    out.put(&line)
-}
-
-// Writes the line of an action that prints. Other actions write nothing.
-fn put_action<K: Sink>(alloc: Global, action: Action, out: &mut K) -> Result<(), Put>
-    ensures ok { OnOk result (Appends (K.written out.old) (K.written out.new) (number_lines (printed_by action []))) }
-    ensures prefix { AppendsPrefix (K.written out.old) (K.written out.new) (number_lines (printed_by action [])) }
-    ensures failed { IsErrOf result Put.Failed → Rose (K.faults out.old) (K.faults out.new) }
-    ensures other { (IsErrOf result Put.Failed → ⊥) → K.faults out.new ≡ K.faults out.old }
-{
-    match action {
-        Action::Print { number } => put_line(alloc, number, out),
-        _ => Ok(()),
-    }
-}
-
-// The pointer to the input, or null.
-fn input_pointer(input: &[i64]) -> i64
-    ensures { result ≡ input_pointer input.now }
-{
-    if input.is_empty() { 0 } else { 1 << 32 }
 }
 
 // The machine of a line alone, with this heap.

@@ -1,19 +1,19 @@
 //! The forks of a task and the lines of execution below them, in one list.
 
-ghost use Rattle.std.specs.Prelude.{◌≡◌, ℕ, suc, ◌+◌, ◌^◌, ◌<◌, ◌≤◌, List, length, slice_get, slice_set, Some, None, IfOk, [], ◌++◌, ◌∷◌};
-ghost use Rattle.lq_tree.specs.declared.plain.PProgram.{PProgram};
+ghost use Rattle.std.specs.Prelude.{◌≡◌, ℕ, ◌<◌, length, slice_get, slice_set, Some, None, IfOk, [], ◌++◌, ◌∷◌};
 ghost use Rattle.lq_machine.specs.declared.machine.forest.Kind.TheVariants.{Over};
 ghost use Rattle.lq_machine.specs.declared.machine.forest.Node.{Node};
-ghost use Rattle.lq_meaning.specs.declared.line.Standing.TheVariants.{Fork as IsFork};
-ghost use Rattle.lq_meaning.specs.Line.{standing_of, IsBelow, children_of, size_of};
-ghost use Rattle.lq_machine.specs.Forest.{Tree, over, root, uses, counts_at, counts_of, counts_over, counts_above, counts_both, counts_standing, Fits, IsTree};
-ghost use Rattle.lq_machine.specs.Paths.{onto, fork_seat};
-ghost use Rattle.lq_machine.specs.Around.{branches_in, FitsAround, Crumb, under, crumb_node, way_of, uses_beside, FitsCrumb, GoesDown, IsOnWay, IsFound, Changes, Keeps, HasTree, Settles, Opens, Grows, Closes, IsAnew, HasAround, Rises, IsVacant, IsPlucked, Returns};
+ghost use Rattle.lq_machine.specs.Forest.{over, counts_at, counts_over, counts_above, counts_both, counts_standing};
+ghost use Rattle.lq_machine.specs.Around.{HasTree};
 
 use lq_meaning::{Line, Standing};
-use lq_tree::{PProgram, Place, TrapKind};
+use lq_tree::{Place, TrapKind};
 use std::alloc::{AllocError, Global};
 use std::mem;
+
+mod path;
+mod settling;
+mod way;
 
 /// The trap that a task ended by.
 #[derive(Clone, Copy)]
@@ -165,44 +165,6 @@ impl<'a> Forest<'a> {
         self.counts(0).runnable
     }
 
-    // The node below a node towards the runnable leaf with this number, and the number that the leaf has there.
-    fn below(&self, node: usize, rest: u64) -> Option<(usize, u64)>
-        ensures { (most : ℕ) (tree : Tree) → Fits self.now.nodes.items most tree → root tree ≡ node → rest < (counts_of tree).runnable
-            → GoesDown self.now.nodes.items most tree rest result }
-    {
-        match &self.nodes.get(node)?.kind {
-            Kind::Pair(left, right) => {
-                let first = self.counts(*left).runnable;
-                if rest < first {
-                    Some((*left, rest))
-                } else {
-                    Some((*right, rest - first))
-                }
-            }
-            Kind::Fork(_, children) => Some((*children, rest)),
-            Kind::Leaf(_) | Kind::Over(_) => None,
-        }
-    }
-
-    /// The node of the runnable leaf with this number. The way becomes the nodes above it, from the root on.
-    pub fn find(&self, pick: u64, way: &mut Vec<usize>) -> Result<usize, AllocError>
-        ensures { IfOk result (λ leaf. (most : ℕ) (tree : Tree) → IsTree self.now.nodes.items most tree → pick < (counts_of tree).runnable
-            → IsFound self.now.nodes.items most tree pick leaf way.new.items) }
-    {
-        way.clear();
-        let mut node = 0;
-        let mut rest = pick;
-        for _ in 0..u64::MAX {
-            let Some((child, less)) = self.below(node, rest) else {
-                return Ok(node);
-            };
-            way.push(node)?;
-            node = child;
-            rest = less;
-        }
-        Err(AllocError)
-    }
-
     // Puts another node in place of one.
     fn put(&mut self, seat: Seat, kind: Kind<'a>, counts: Counts)
         requires { seat.node < length self.old.nodes.items }
@@ -216,173 +178,12 @@ impl<'a> Forest<'a> {
         };
     }
 
-    // Puts the fork of a line into a node, above its children. Where these have all ended, the node has ended by their trap,
-    // or the line goes on behind them and is given back.
-    fn close(
-        &mut self,
-        p: &'a PProgram,
-        seat: Seat,
-        line: Line<'a>,
-        children: usize,
-    ) -> Result<Option<Line<'a>>, AllocError>
-        requires { seat.node < length self.old.nodes.items }
-        ensures changes { IfOk result (λ _. Changes self.old.nodes.items self.new.nodes.items seat.node) }
-        ensures closes { IfOk result (λ after. (most : ℕ) (below : Tree) → standing_of line.entry ≡ IsFork → IsBelow most line.entry
-            → HasTree self.old.nodes.items most children below → uses seat.node below ≡ 0
-            → Closes p.now most self.old.nodes.items self.new.nodes.items seat.node seat.number seat.passed line.entry below after) }
+    // Tells this of a node.
+    fn tell(&mut self, node: usize, counts: Counts)
+        requires { node < length self.old.nodes.items }
+        ensures { (found : Node) → slice_get self.old.nodes.items node ≡ Some found → self.new.nodes.items ≡ slice_set self.old.nodes.items node (record found { counts = counts }) }
     {
-        let counts = self.counts(children);
-        if !counts.ended {
-            self.put(seat, Kind::Fork(line, children), counts_above(counts));
-            return Ok(None);
-        }
-        if counts.trap.is_some() {
-            self.put(seat, Kind::Over(counts.trap), counts_over(counts.trap));
-            return Ok(None);
-        }
-        let mut line = line;
-        line.pass_fork(p)?;
-        Ok(Some(line))
-    }
-
-    // Puts a line into a node, in front of no fork.
-    fn stand(&mut self, seat: Seat, line: Line<'a>)
-        requires { seat.node < length self.old.nodes.items }
-        ensures changes { Changes self.old.nodes.items self.new.nodes.items seat.node }
-        ensures settles { (p : PProgram) (most : ℕ) → IsBelow most line.entry → (standing_of line.entry ≡ IsFork → ⊥)
-            → Settles p most self.old.nodes.items self.new.nodes.items seat.node seat.number seat.passed line.entry }
-    {
-        match line.standing() {
-            Standing::Done => self.put(seat, Kind::Over(None), counts_over(None)),
-            Standing::Trapped { kind, at } => {
-                let trap = Some(Caught { kind, at });
-                self.put(seat, Kind::Over(trap), counts_over(trap));
-            }
-            standing => self.put(seat, Kind::Leaf(line), counts_standing(standing)),
-        }
-    }
-
-    /// Puts a line into a node: where it stands in front of a fork, its branches come below it. A fork whose branches have
-    /// all ended is passed at once. So many forks more may begin, each in a branch of the one before.
-    #[cycle(settle)]
-    pub fn settle(
-        &mut self,
-        p: &'a PProgram,
-        seat: Seat,
-        line: Line<'a>,
-        depth: u32,
-    ) -> Result<(), AllocError>
-        requires { seat.node < length self.old.nodes.items }
-        ensures changes { IfOk result (λ _. Changes self.old.nodes.items self.new.nodes.items seat.node) }
-        ensures settles { IfOk result (λ _. (most : ℕ) → IsBelow most line.entry
-            → Settles p.now most self.old.nodes.items self.new.nodes.items seat.node seat.number seat.passed line.entry) }
-    {
-        let mut line = line;
-        let mut passed = seat.passed;
-        for _ in 0..u64::MAX {
-            let here = Seat {
-                node: seat.node,
-                number: seat.number,
-                passed,
-            };
-            if !matches!(line.standing(), Standing::Fork) {
-                self.stand(here, line);
-                return Ok(());
-            }
-            let Some(after) = self.open(p, here, line, depth)? else {
-                return Ok(());
-            };
-            line = after;
-            if passed == u64::MAX {
-                return Err(AllocError);
-            }
-            passed += 1;
-        }
-        Err(AllocError)
-    }
-
-    // Puts a line in front of a fork into a node, above its branches. Where these have all ended and none trapped, the line
-    // is given back behind them.
-    #[cycle(settle)]
-    fn open(
-        &mut self,
-        p: &'a PProgram,
-        seat: Seat,
-        line: Line<'a>,
-        depth: u32,
-    ) -> Result<Option<Line<'a>>, AllocError>
-        requires { seat.node < length self.old.nodes.items }
-        ensures changes { IfOk result (λ _. Changes self.old.nodes.items self.new.nodes.items seat.node) }
-        ensures opens { IfOk result (λ after. (most : ℕ) → standing_of line.entry ≡ IsFork → IsBelow most line.entry
-            → Opens p.now most self.old.nodes.items self.new.nodes.items seat.node seat.number seat.passed line.entry after) }
-    {
-        let mut line = line;
-        let count = line.fork_size();
-        if count == 0 {
-            line.pass_fork(p)?;
-            return Ok(Some(line));
-        }
-        if depth == 0 {
-            return Err(AllocError);
-        }
-        let children = self.grow(p, &line, 0, count, depth - 1)?;
-        self.close(p, seat, line, children)
-    }
-
-    // Adds so many branches of the fork in front of which a line stands, from this number on, and gives their node.
-    #[cycle(settle)]
-    fn grow(
-        &mut self,
-        p: &'a PProgram,
-        line: &Line<'a>,
-        first: u64,
-        count: u64,
-        depth: u32,
-    ) -> Result<usize, AllocError>
-        requires some { 0 < count }
-        requires fits { first + count < 2 ^ 64 }
-        ensures keeps { IfOk result (λ _. Keeps self.old.nodes.items self.new.nodes.items) }
-        ensures grows { IfOk result (λ node. (most : ℕ) → 0 < most → Grows p.now most self.old.nodes.items self.new.nodes.items line.now first count node) }
-    {
-        if count == 1 {
-            return self.sprout(p, line, first, depth);
-        }
-        let half = count / 2;
-        let node = self.add()?;
-        let left = self.grow(p, line, first, half, depth)?;
-        let right = self.grow(p, line, first + half, count - half, depth)?;
-        let counts = counts_both(self.counts(left), self.counts(right))?;
-        let seat = Seat {
-            node,
-            number: 0,
-            passed: 0,
-        };
-        self.put(seat, Kind::Pair(left, right), counts);
-        Ok(node)
-    }
-
-    // Adds the branch with this number of the fork in front of which a line stands, and gives its node.
-    #[cycle(settle)]
-    fn sprout(
-        &mut self,
-        p: &'a PProgram,
-        line: &Line<'a>,
-        number: u64,
-        depth: u32,
-    ) -> Result<usize, AllocError>
-        ensures keeps { IfOk result (λ _. Keeps self.old.nodes.items self.new.nodes.items) }
-        ensures grows { IfOk result (λ node. (most : ℕ) → 0 < most → Grows p.now most self.old.nodes.items self.new.nodes.items line.now number 1 node) }
-    {
-        let mut child = Line::new(self.alloc);
-        line.child(p, number, &mut child)?;
-        let node = self.add()?;
-        let seat = Seat {
-            node,
-            number,
-            passed: 0,
-        };
-        self.settle(p, seat, child, depth)?;
-        Ok(node)
+        self.nodes[node].counts = counts;
     }
 
     // Adds a node, and gives its number.
@@ -416,133 +217,4 @@ impl<'a> Forest<'a> {
         let kind = mem::replace(&mut self.nodes[node].kind, Kind::Over(None));
         Ok((seat, kind))
     }
-
-    // Makes a node anew, by what is told of the nodes below it. A fork whose children have all ended is passed.
-    fn make_anew(&mut self, p: &'a PProgram, node: usize) -> Result<(), AllocError>
-        ensures changes { IfOk result (λ _. Changes self.old.nodes.items self.new.nodes.items node) }
-        ensures anew { IfOk result (λ _. (most : ℕ) (crumb : Crumb) (below : Tree) → crumb_node crumb ≡ node → FitsCrumb self.old.nodes.items most crumb (root below)
-            → Fits self.old.nodes.items most below → ((k : ℕ) → uses_beside k crumb + uses k below ≤ 1) → IsAnew p.now most self.old.nodes.items self.new.nodes.items crumb below) }
-    {
-        let (seat, kind) = self.take(node)?;
-        match kind {
-            Kind::Pair(left, right) => {
-                let counts = counts_both(self.counts(left), self.counts(right))?;
-                self.put(seat, Kind::Pair(left, right), counts);
-                Ok(())
-            }
-            Kind::Fork(line, children) => self.leave(p, seat, line, children),
-            Kind::Leaf(_) | Kind::Over(_) => Err(AllocError),
-        }
-    }
-
-    // Puts the fork of a line into a node, above its children; or the line goes on behind them where they have all ended.
-    fn leave(
-        &mut self,
-        p: &'a PProgram,
-        seat: Seat,
-        line: Line<'a>,
-        children: usize,
-    ) -> Result<(), AllocError>
-        requires { seat.node < length self.old.nodes.items }
-        ensures changes { IfOk result (λ _. Changes self.old.nodes.items self.new.nodes.items seat.node) }
-        ensures anew { IfOk result (λ _. (most : ℕ) (below : Tree) → standing_of line.entry ≡ IsFork → IsBelow most line.entry
-            → HasTree self.old.nodes.items most children below → uses seat.node below ≡ 0
-            → IsAnew p.now most self.old.nodes.items self.new.nodes.items (under seat.node seat.number seat.passed line.entry) below) }
-    {
-        let Some(after) = self.close(p, seat, line, children)? else {
-            return Ok(());
-        };
-        if seat.passed == u64::MAX {
-            return Err(AllocError);
-        }
-        let next = Seat {
-            node: seat.node,
-            number: seat.number,
-            passed: seat.passed + 1,
-        };
-        self.settle(p, next, after, DEEPEST)
-    }
-
-    /// Makes the nodes of a way anew, from the last one up to the root.
-    pub fn rise(&mut self, p: &'a PProgram, way: &mut Vec<usize>) -> Result<(), AllocError>
-        ensures { IfOk result (λ _. (most : ℕ) (crumbs : List Crumb) (below : Tree) → way.old.items ≡ way_of crumbs → HasAround self.old.nodes.items most crumbs below
-            → Rises p.now most self.new.nodes.items crumbs below) }
-    {
-        while let Some(node) = way.pop() {
-            self.make_anew(p, node)?;
-        }
-        Ok(())
-    }
-
-    /// Takes out the line of the runnable leaf with this number. The way becomes the nodes above it, from the root on.
-    pub fn pluck(&mut self, pick: u64, way: &mut Vec<usize>) -> Result<(Seat, Line<'a>), AllocError>
-        ensures within { IfOk result (λ plucked. plucked.0.node < length self.new.nodes.items) }
-        ensures line { IfOk result (λ plucked. (most : ℕ) (tree : Tree) → IsTree self.old.nodes.items most tree → pick < (counts_of tree).runnable
-            → IsPlucked self.new.nodes.items most tree pick plucked.0 plucked.1 way.new.items) }
-    {
-        let leaf = self.find(pick, way)?;
-        let (seat, kind) = self.take(leaf)?;
-        match kind {
-            Kind::Leaf(line) => Ok((seat, line)),
-            Kind::Over(_) | Kind::Fork(..) | Kind::Pair(..) => Err(AllocError),
-        }
-    }
-
-    /// Puts back a line, below the nodes of a way.
-    pub fn put_back(
-        &mut self,
-        p: &'a PProgram,
-        seat: Seat,
-        line: Line<'a>,
-        way: &mut Vec<usize>,
-    ) -> Result<(), AllocError>
-        requires { seat.node < length self.old.nodes.items }
-        ensures { IfOk result (λ _. (most : ℕ) (crumbs : List Crumb) → way.old.items ≡ way_of crumbs → IsVacant self.old.nodes.items most crumbs seat.node → IsBelow most line.entry
-            → Returns p.now most self.new.nodes.items crumbs seat line.entry) }
-    {
-        self.settle(p, seat, line, DEEPEST)?;
-        self.rise(p, way)
-    }
-
-    /// The path of a line below the nodes of a way: how many forks were passed before each fork on the way and at the line,
-    /// and between them the numbers of the branches.
-    pub fn path(&self, seat: Seat, way: &[usize]) -> Result<Vec<u64>, AllocError>
-        ensures { IfOk result (λ path. (most : ℕ) (crumbs : List Crumb) → FitsAround self.now.nodes.items most crumbs seat.node → way.now ≡ way_of crumbs
-            → path.items ≡ branches_in crumbs seat.number ++ seat.passed ∷ []) }
-    {
-        let mut path = Vec::new(self.alloc);
-        for node in way {
-            if let Some(fork) = self.fork_at(*node) {
-                go_down(&mut path, fork)?;
-            }
-        }
-        go_down(&mut path, seat)?;
-        Ok(path)
-    }
-
-    // The fork at a node, if there is one.
-    fn fork_at(&self, node: usize) -> Option<Seat>
-        ensures { result ≡ fork_seat node (slice_get self.now.nodes.items node) }
-    {
-        let found = self.nodes.get(node)?;
-        match &found.kind {
-            Kind::Fork(..) => Some(Seat {
-                node,
-                number: found.number,
-                passed: found.passed,
-            }),
-            _ => None,
-        }
-    }
-}
-
-// Goes down one fork more, or to a line: to the branch with this number, where so many forks were passed.
-fn go_down(path: &mut Vec<u64>, seat: Seat) -> Result<(), AllocError>
-    ensures { IfOk result (λ _. path.new.items ≡ onto path.old.items seat) }
-{
-    if !path.is_empty() {
-        path.push(seat.number)?;
-    }
-    path.push(seat.passed)?;
-    Ok(())
 }

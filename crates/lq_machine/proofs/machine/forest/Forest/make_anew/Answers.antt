@@ -1,24 +1,44 @@
--- A fork or a pair is made anew.
-use Rattle.std.proofs.Common.{◌≡◌, ℕ, List, length, sym, ap, ◌∙◌, subst, arith, None}
+-- A node is told anew what is below it, or a fork is passed.
+use Rattle.std.proofs.Common.{◌≡◌, ℕ, List, length, Option, None, Some, refl, sym, ap, ◌∙◌, subst, arith}
+use Rattle.std.specs.Prelude.{IfSome, slice_get}
 use Rattle.std.proofs.lemmas.Option.{slice_get_within}
 use Rattle.std.proofs.Math.ListN.{length-set}
 use Rattle.lq_meaning.specs.declared.line.Standing.TheVariants.{Fork as IsFork}
 use Rattle.lq_meaning.specs.Line.{standing_of, IsBelow}
+use Rattle.lq_machine.specs.declared.machine.forest.Counts.{Counts}
 use Rattle.lq_machine.specs.declared.machine.forest.Kind.TheVariants.{Over}
 use Rattle.lq_machine.specs.declared.machine.forest.Node.{Node}
 use Rattle.lq_machine.specs.declared.machine.forest.Seat.{Seat}
-use Rattle.lq_machine.specs.Forest.{Tree, uses}
+use Rattle.lq_machine.specs.Forest.{Tree, uses, IsTold}
 use Rattle.lq_machine.specs.Around.{under, Changes, HasTree, IsAnew}
 use Rattle.lq_machine.proofs.Seats.{set-changes}
 use Rattle.lq_machine.proofs.Growth.{if_ok, Changes-trans}
-use Rattle.lq_machine.proofs.Rising.{anew_fork, anew_pair}
+use Rattle.lq_machine.proofs.Rising.{anew_fork, anew_told}
 use Rattle.lq_machine.proofs.machine.forest.Forest.make_anew.Goals as goal
 
-pub returns-in-Pair-clause-anew : goal.returns-in-Pair-clause-anew
-returns-in-Pair-clause-anew c most crumb below at fits_crumb fits once =
-    let took = c.in_ok-seat.ensures in
-    rw (c.put.ensures, took.2, c.in_ok-counts-in-Pair.ensures, c.counts.ensures, c.counts-in-Pair.ensures)
-    (anew_pair c.args.p.now most c.args.self.now.nodes.items c.take.new.self.nodes.items c.args.node c.in-Pair.left c.in-Pair.right took.0 _ took.1 (sym took.3 ∙ c.in-Pair.is) took.4 crumb below at fits_crumb fits once)
+-- the node is there, and is told what is below it
+told_node : (nodes : List Node) (node : ℕ) (result : Option Counts) (counts : Counts) → result ≡ Some counts
+    → IfSome result (λ counts. (found : Node) × (slice_get nodes node ≡ Some found) × IsTold nodes found.kind counts)
+    → (found : Node) × (slice_get nodes node ≡ Some found) × IsTold nodes found.kind counts
+told_node nodes node (Some counts') counts is told =
+    let same : counts' ≡ counts = cc in subst (λ (counts : Counts). (found : Node) × (slice_get nodes node ≡ Some found) × IsTold nodes found.kind counts) same told
+told_node nodes node None counts is told = absurd cc
+
+pub tell-requires : goal.tell-requires
+tell-requires c =
+    let told = told_node c.args.self.now.nodes.items c.args.node c.in_ok-counts.field-0 c.in-Some.counts c.in-Some.is c.in_ok-counts.ensures in
+    slice_get_within c.args.self.now.nodes.items c.args.node told.0 told.1
+
+pub returns-in-Some-clause-changes : goal.returns-in-Some-clause-changes
+returns-in-Some-clause-changes c =
+    let told = told_node c.args.self.now.nodes.items c.args.node c.in_ok-counts.field-0 c.in-Some.counts c.in-Some.is c.in_ok-counts.ensures in
+    rw (c.tell.ensures told.0 told.1) (set-changes c.args.self.now.nodes.items c.args.node _)
+
+pub returns-in-Some-clause-anew : goal.returns-in-Some-clause-anew
+returns-in-Some-clause-anew c most crumb below at fits_crumb fits once =
+    let told = told_node c.args.self.now.nodes.items c.args.node c.in_ok-counts.field-0 c.in-Some.counts c.in-Some.is c.in_ok-counts.ensures in
+    rw (c.tell.ensures told.0 told.1)
+    (anew_told c.args.p.now most c.args.self.now.nodes.items c.args.node told.0 c.in-Some.counts told.1 told.0.kind refl told.2 crumb below at fits_crumb fits once)
 
 pub leave-requires : goal.leave-requires
 leave-requires c =
