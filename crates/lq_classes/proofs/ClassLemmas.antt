@@ -5,22 +5,19 @@ use Rattle.std.specs.List.{flat_map}
 use Rattle.std.proofs.lemmas.Bool.{true≢false}
 use Rattle.std.proofs.Math.Nat.{mul-le-mul_right}
 use Rattle.lq_tree.specs.declared.plain.PProgram.{PProgram}
-use Rattle.lq_tree.specs.Formed.{IsFormed}
 use Rattle.lq_classes.specs.declared.var.Var.{Var}
 use Rattle.lq_classes.specs.declared.links.Link.TheVariants.{Access as Accesses}
 use Rattle.lq_classes.specs.Classes.{is_variable, class_at, are_in_order, AreClasses}
 use Rattle.lq_classes.specs.Links.{links_from}
-use Rattle.lq_classes.specs.Layout.{total, number, pointers, parts_of}
+use Rattle.lq_classes.specs.Layout.{total, IsSmall, number, pointers, parts_of}
 use Rattle.lq_classes.specs.Joins.{pairs_of, AreLabelsOf}
 use Rattle.lq_classes.specs.Numbers.{AreNumbers}
-use Rattle.lq_classes.proofs.FormedLemmas.{few_numbers}
 use Rattle.lq_classes.proofs.LayoutLemmas.{within, outside, lies, concat-parts_of, length-pointers}
 use Rattle.lq_classes.proofs.PairLemmas.{same_from, label_from}
 
 -- there is room for all places
-pub small_places : (p : PProgram) (count fields : ℕ) → IsFormed p → count ≡ total p.funcs → fields ≤ 2 ^ 32 → count * (fields + 1) < 2 ^ 64
-small_places p count fields formed all few =
-    let low = few_numbers p formed in
+pub small_places : (p : PProgram) (count fields : ℕ) → IsSmall p → count ≡ total p.funcs → fields ≤ 2 ^ 32 → count * (fields + 1) < 2 ^ 64
+small_places p count fields low all few =
     let product = mul-le-mul_right {m = count} {n = 2 ^ 31} (fields + 1) (omega (arith, low, all)) in omega (arith, product, few)
 
 module _ (p : PProgram) (fields : ℕ) (labels numbers : List ℕ) (h : AreLabelsOf (flat_map (pairs_of p (total p.funcs)) (links_from p 0 p.funcs)) (total p.funcs) fields labels)

@@ -1,5 +1,5 @@
 -- Joining: what stays true, and that less is left to do.
-use Rattle.std.proofs.Common.{◌≡◌, ◌⊎◌, inl, inr, ℕ, suc, ◌+◌, ◌*◌, ◌<◌, ◌≤◌, List, [], ◌∷◌, ◌++◌, length, get_or, set, sum, below_more, refl, sym, ap, subst, ◌∙◌, arith}
+use Rattle.std.proofs.Common.{◌≡◌, ◌≢◌, ◌⊎◌, inl, inr, ℕ, suc, ◌+◌, ◌*◌, ◌<◌, ◌≤◌, List, [], ◌∷◌, ◌++◌, length, get_or, set, sum, min, max, below_more, refl, sym, ap, subst, ◌∙◌, arith}
 use Rattle.std.specs.Prelude.{Contains}
 use Rattle.std.proofs.lemmas.Bool.{cases_eq, cases_lt}
 use Rattle.std.proofs.Math.ListN.{length-set}
@@ -198,25 +198,34 @@ module _ (count fields : ℕ) (old mid ps : List ℕ) (before : List Pair) (a b 
   work_ps : work fields ps (before ++ pair a b ∷ []) ≤ work fields old (before ++ pair a b ∷ [])
   work_ps = let one = s.less in let two = t.less in let less : sum ps ≤ sum old = omega (arith, one, two) in let product = mul-le-mul_right (fields + 1) less in omega (arith, product)
 
-  pub step_less : (new : List ℕ) (after : List Pair) → first < second → new ≡ set ps second first → (second < count → PutsFields count fields first second before after) → (count ≤ second → after ≡ before)
-      → IsStep count fields a b old before new after
-  step_less new after less is puts none =
-      let tie : (label : ℕ → ℕ) → Respects label ps → label first ≡ label second → label a ≡ label b = λ label same e. way_a label same ∙ e ∙ sym (way_b label same) in
+  -- the set of the greater one is joined with that of the lesser
+  step_joined : (low high : ℕ) (new : List ℕ) (after : List Pair) → low < high → high < length ps → get_or ps high 0 ≡ high → ((label : ℕ → ℕ) → Respects label ps → label low ≡ label high → label a ≡ label b)
+      → ((pairs : List Pair) → AreOnWay pairs count fields old (before ++ pair a b ∷ []) → Joined pairs count fields low high)
+      → new ≡ set ps high low → (high < count → PutsFields count fields low high before after) → (count ≤ high → after ≡ before) → IsStep count fields a b old before new after
+  step_joined low high new after less within least tie joined is puts none =
       subst (λ (ns : List ℕ). IsStep count fields a b old before ns after) (sym is) (record {
-        sets = sets_joined count fields ps before after a b first second t.forest size_ps less second_in m.itself puts none tie sets_ps;
-        onward = λ pairs h. on_way_joined count fields ps before after a b first second t.forest size_ps less second_in m.itself puts none tie pairs (both pairs h) (on_ps pairs h);
-        less = (let down = less_joined count fields ps before after a b first second t.forest size_ps less second_in m.itself puts none tie in let more = work_ps in omega (arith, down, more));
+        sets = sets_joined count fields ps before after a b low high t.forest size_ps less within least puts none tie sets_ps;
+        onward = λ pairs h. on_way_joined count fields ps before after a b low high t.forest size_ps less within least puts none tie pairs (joined pairs h) (on_ps pairs h);
+        less = (let down = less_joined count fields ps before after a b low high t.forest size_ps less within least puts none tie in let more = work_ps in omega (arith, down, more));
       })
 
-  pub step_greater : (new : List ℕ) (after : List Pair) → second < first → new ≡ set ps first second → (first < count → PutsFields count fields second first before after) → (count ≤ first → after ≡ before)
-      → IsStep count fields a b old before new after
-  step_greater new after less is puts none =
-      let tie : (label : ℕ → ℕ) → Respects label ps → label second ≡ label first → label a ≡ label b = λ label same e. way_a label same ∙ sym e ∙ sym (way_b label same) in
-      subst (λ (ns : List ℕ). IsStep count fields a b old before ns after) (sym is) (record {
-        sets = sets_joined count fields ps before after a b second first t.forest size_ps less first_in first_least puts none tie sets_ps;
-        onward = λ pairs h. on_way_joined count fields ps before after a b second first t.forest size_ps less first_in first_least puts none tie pairs (turned (both pairs h)) (on_ps pairs h);
-        less = (let down = less_joined count fields ps before after a b second first t.forest size_ps less first_in first_least puts none tie in let more = work_ps in omega (arith, down, more));
-      })
+  pub step_apart : (low high : ℕ) (new : List ℕ) (after : List Pair) → first ≢ second → low ≡ min first second → high ≡ max first second
+      → new ≡ set ps high low → (high < count → PutsFields count fields low high before after) → (count ≤ high → after ≡ before) → IsStep count fields a b old before new after
+  step_apart low high new after apart lesser greater is puts none =
+      elim (cases_lt first second) [
+        | inl less ↦
+            let e : low ≡ first = omega (arith, lesser, less) in
+            let f : high ≡ second = omega (arith, greater, less) in
+            step_joined low high new after (omega (arith, e, f, less)) (let within = second_in in omega (arith, f, within)) (subst (λ n. get_or ps n 0 ≡ n) (sym f) m.itself)
+            (λ label same tied. way_a label same ∙ ap label (sym e) ∙ tied ∙ ap label f ∙ sym (way_b label same))
+            (λ pairs h. subst (λ n. Joined pairs count fields n high) (sym e) (subst (λ n. Joined pairs count fields first n) (sym f) (both pairs h))) is puts none
+        | inr le ↦
+            let e : low ≡ second = omega (arith, lesser, le) in
+            let f : high ≡ first = omega (arith, greater, le) in
+            step_joined low high new after (omega (arith, e, f, le, apart)) (let within = first_in in omega (arith, f, within)) (subst (λ n. get_or ps n 0 ≡ n) (sym f) first_least)
+            (λ label same tied. way_a label same ∙ ap label (sym f) ∙ sym tied ∙ ap label e ∙ sym (way_b label same))
+            (λ pairs h. subst (λ n. Joined pairs count fields n high) (sym e) (subst (λ n. Joined pairs count fields second n) (sym f) (turned (both pairs h)))) is puts none
+      ]
 
   agrees_same : first ≡ second → (label : ℕ → ℕ) → Respects label ps → Agrees label before → Agrees label (before ++ pair a b ∷ [])
   agrees_same e label same agrees x y h =

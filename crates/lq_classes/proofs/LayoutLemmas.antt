@@ -12,9 +12,7 @@ use Rattle.lq_classes.specs.Classes.{type_in, number_in, is_variable}
 use Rattle.lq_classes.specs.declared.var.Var.{Var}
 use Rattle.lq_tree.specs.declared.plain.PFunc.{PFunc}
 use Rattle.lq_tree.specs.declared.plain.PProgram.{PProgram}
-use Rattle.lq_tree.specs.Formed.{IsFormed}
-use Rattle.lq_classes.specs.Layout.{total, start, pointers_in, pointers, parts_of, number, number_if}
-use Rattle.lq_classes.proofs.FormedLemmas.{few_numbers}
+use Rattle.lq_classes.specs.Layout.{total, IsSmall, start, pointers_in, pointers, parts_of, number, number_if}
 
 -- one function more
 pub start_more : (funcs : List PFunc) (n : ℕ) (f : PFunc) → n < length funcs → f ≡ get_or funcs n f → start funcs (suc n) ≡ start funcs n + suc (length f.slots)
@@ -28,8 +26,19 @@ start_le [] n = omega arith
 start_le (f ∷ funcs) zero = omega arith
 start_le (f ∷ funcs) (suc n) = let more = start_le funcs n in omega (arith, more)
 
-pub start_small : (p : PProgram) (n : ℕ) → IsFormed p → start p.funcs n ≤ 2 ^ 31
-start_small p n formed = let low = start_le p.funcs n in let few = few_numbers p formed in omega (arith, low, few)
+pub start_small : (p : PProgram) (n : ℕ) → IsSmall p → start p.funcs n ≤ 2 ^ 31
+start_small p n small = let low = start_le p.funcs n in omega (arith, low, small)
+
+-- a function has no more slots than all have numbers
+pub slots_le : (funcs : List PFunc) (n : ℕ) (f : PFunc) → slice_get funcs n ≡ Some f → suc (length f.slots) ≤ total funcs
+slots_le [] n f there = absurd cc
+slots_le (g ∷ funcs) zero f there = let same : g ≡ f = cc in let size = ap (λ (h : PFunc). length h.slots) same in omega (arith, size)
+slots_le (g ∷ funcs) (suc n) f there = let more = slots_le funcs n f there in omega (arith, more)
+
+-- and no more functions
+pub funcs_le : (funcs : List PFunc) → length funcs ≤ total funcs
+funcs_le [] = omega arith
+funcs_le (f ∷ funcs) = let more = funcs_le funcs in omega (arith, more)
 
 pub start_zero : (funcs : List PFunc) → 0 ≡ start funcs 0
 start_zero [] = refl
@@ -115,10 +124,10 @@ lies (f ∷ funcs) numbers (suc n) s = lies_later f funcs numbers n s (lies func
 
 -- ---- the starts
 
-pub start_step : (p : PProgram) (xs : List PFunc) (n : ℕ) (f : PFunc) → IsFormed p → xs ≡ p.funcs → n < length xs → f ≡ get_or xs n f
+pub start_step : (p : PProgram) (xs : List PFunc) (n : ℕ) (f : PFunc) → IsSmall p → xs ≡ p.funcs → n < length xs → f ≡ get_or xs n f
     → (start p.funcs (suc n) ≡ start p.funcs n + suc (length f.slots)) × (start p.funcs (suc n) ≤ 2 ^ 31)
-start_step p xs n f formed same low is =
-    (start_more p.funcs n f (subst (λ (ys : List PFunc). n < length ys) same low) (is ∙ ap (λ (ys : List PFunc). get_or ys n f) same), start_small p (suc n) formed)
+start_step p xs n f small same low is =
+    (start_more p.funcs n f (subst (λ (ys : List PFunc). n < length ys) same low) (is ∙ ap (λ (ys : List PFunc). get_or ys n f) same), start_small p (suc n) small)
 
 pub starts_more : (funcs : List PFunc) (starts new : List ℕ) (n next count : ℕ) → length starts ≡ n → ((k : ℕ) → k < n → get_or starts k 0 ≡ start funcs k) → next ≡ start funcs n
     → new ≡ starts ++ next ∷ [] → start funcs (n + 1) ≡ start funcs n + suc count

@@ -1,5 +1,5 @@
 -- The numbers of a program's slots and results.
-use Rattle.std.specs.Prelude.{◌≡◌, ℕ, zero, suc, ◌+◌, ◌<◌, Bool, ◌++◌, length, List, [], ◌∷◌, map, take, drop, slice_index, if◌then◌else◌, Option, None, Some}
+use Rattle.std.specs.Prelude.{◌≡◌, ℕ, zero, suc, ◌+◌, ◌^◌, ◌<◌, ◌≤◌, Bool, ◌++◌, length, List, [], ◌∷◌, map, take, drop, slice_index, if◌then◌else◌, Option, None, Some}
 use Rattle.std.specs.List.{flat_map}
 use Rattle.lq_tree.specs.declared.plain.Slot.{Slot}
 use Rattle.lq_tree.specs.declared.plain.PFunc.{PFunc}
@@ -18,6 +18,10 @@ abbrev pub start : List PFunc → (func : ℕ) → ℕ
 start [] n = 0
 start (f ∷ funcs) zero = 0
 start (f ∷ funcs) (suc n) = suc (length f.slots) + start funcs n
+
+-- the slots and results of a program are so few that four bytes number them
+abbrev pub IsSmall : PProgram → Type 0
+IsSmall p = total p.funcs ≤ 2 ^ 31
 
 -- the starts of all functions
 pub record AreStarts (funcs : List PFunc) (starts : List ℕ) : Type 0 where

@@ -3,19 +3,18 @@
 //! Beside the variables there is a place for each field behind each variable: what is loaded from the field or stored to it
 //! through the variable is joined with this place. Where two variables are joined, the places behind them are too.
 
-ghost use Rattle.std.specs.Prelude.{◌≡◌, ℕ, ◌+◌, ◌*◌, ◌^◌, ◌<◌, ◌≤◌, ◌++◌, [], ◌∷◌, List, OnOk, IfOk, Contains, length, slice_set};
+ghost use Rattle.std.specs.Prelude.{◌≡◌, ℕ, ◌+◌, ◌*◌, ◌^◌, ◌<◌, ◌≤◌, ◌++◌, [], ◌∷◌, List, OnOk, IfOk, IfSome, IfNone, Contains, length, slice_set};
 ghost use Rattle.std.specs.List.{flat_map};
-ghost use Rattle.lq_tree.specs.Formed.{IsFormed};
 ghost use Rattle.lq_classes.specs.declared.var.Var.{Var as Held};
 ghost use Rattle.lq_classes.specs.declared.links.Link.TheVariants.{Access};
 ghost use Rattle.lq_classes.specs.declared.joins.Pair.{Pair as Pairing};
-ghost use Rattle.lq_classes.specs.Layout.{AreStarts, total};
-ghost use Rattle.lq_classes.specs.Joins as spec;
+ghost use Rattle.lq_classes.specs.Layout.{IsSmall, AreStarts, total};
 ghost use Rattle.lq_classes.specs.Joins.{pairs_of, AreSets, AreOnWay, IsStep, PutsFields, AreLabelsOf};
 
 use crate::forest::{apart, labels_of, least_of};
 use crate::layout::number_of;
 use crate::links::Link;
+use crate::places::Places;
 use lq_tree::PProgram;
 use std::alloc::{AllocError, Global};
 
@@ -42,15 +41,6 @@ pub(crate) fn fields_of(links: &[Link]) -> usize
     fields
 }
 
-/// The place of a field behind the variable with this number, where there are so many numbers.
-fn place(count: usize, number: usize, field: usize) -> usize
-    requires room { field + 1 < 2 ^ 64 }
-    requires small { (field + 1) * count + number < 2 ^ 64 }
-    ensures { result ≡ spec.place count number field }
-{
-    (field + 1) * count + number
-}
-
 /// Two numbers that are to be joined.
 #[derive(Clone, Copy)]
 pub(crate) struct Pair {
@@ -58,60 +48,44 @@ pub(crate) struct Pair {
     b: usize,
 }
 
-/// Puts down what a link asks to be joined.
-fn put_pair(
-    program: &PProgram,
-    starts: &[usize],
-    count: usize,
-    fields: usize,
-    link: &Link,
-    waiting: &mut Vec<Pair>,
-) -> Result<(), AllocError>
-    requires formed { IsFormed program.now }
+/// What a link asks to be joined, where all that it speaks of are variables.
+fn pair_of(program: &PProgram, starts: &[usize], places: Places, link: &Link) -> Option<Pair>
+    requires program { IsSmall program.now }
     requires starts { AreStarts program.now.funcs starts.now }
-    requires count { count ≡ total program.now.funcs }
-    requires small { count * (fields + 1) < 2 ^ 64 }
-    requires fields { (base : Held) (field : ℕ) (value : Held) → link.now ≡ Access base field value → field < fields }
-    ensures { OnOk result (waiting.new.items ≡ waiting.old.items ++ pairs_of program.now count link.now) }
+    requires count { places.count ≡ total program.now.funcs }
+    requires fields { (base : Held) (field : ℕ) (value : Held) → link.now ≡ Access base field value → field < places.fields }
+    ensures some { IfSome result (λ pair. pairs_of program.now places.count link.now ≡ pair ∷ []) }
+    ensures none { IfNone result (pairs_of program.now places.count link.now ≡ []) }
 {
     match link {
         Link::Flow(from, to) => {
-            if let (Some(a), Some(b)) = (
-                number_of(program, starts, *from),
-                number_of(program, starts, *to),
-            ) {
-                waiting.push(Pair { a, b })?;
-            }
+            let a = number_of(program, starts, *from)?;
+            let b = number_of(program, starts, *to)?;
+            Some(Pair { a, b })
         }
         Link::Access(base, field, value) => {
-            if let (Some(base), Some(b)) = (
-                number_of(program, starts, *base),
-                number_of(program, starts, *value),
-            ) {
-                let a = place(count, base, *field as usize);
-                waiting.push(Pair { a, b })?;
-            }
+            let base = number_of(program, starts, *base)?;
+            let b = number_of(program, starts, *value)?;
+            let a = places.place(base, *field as usize);
+            Some(Pair { a, b })
         }
     }
-    Ok(())
 }
 
 /// Puts down that the places behind one variable are to be joined with those behind another.
 fn put_fields(
-    count: usize,
-    fields: usize,
+    places: Places,
     first: usize,
     second: usize,
     waiting: &mut Vec<Pair>,
 ) -> Result<(), AllocError>
-    requires small { count * (fields + 1) < 2 ^ 64 }
-    requires first { first < count }
-    requires second { second < count }
-    ensures { OnOk result (PutsFields count fields first second waiting.old.items waiting.new.items) }
+    requires first { first < places.count }
+    requires second { second < places.count }
+    ensures { OnOk result (PutsFields places.count places.fields first second waiting.old.items waiting.new.items) }
 {
-    for field in 0..fields {
-        let a = place(count, first, field);
-        let b = place(count, second, field);
+    for field in 0..places.fields {
+        let a = places.place(first, field);
+        let b = places.place(second, field);
         waiting.push(Pair { a, b })?;
     }
     Ok(())
@@ -119,64 +93,55 @@ fn put_fields(
 
 /// Joins the set of the second number with that of the first, each the least of its set.
 fn lead(
-    count: usize,
-    fields: usize,
+    places: Places,
     first: usize,
     second: usize,
     parents: &mut Vec<usize>,
     waiting: &mut Vec<Pair>,
 ) -> Result<(), AllocError>
-    requires small { count * (fields + 1) < 2 ^ 64 }
     requires below { first < second }
     requires within { second < length parents.old.items }
     ensures set { OnOk result (parents.new.items ≡ slice_set parents.old.items second first) }
-    ensures fields { OnOk result (second < count → PutsFields count fields first second waiting.old.items waiting.new.items) }
-    ensures none { OnOk result (count ≤ second → waiting.new.items ≡ waiting.old.items) }
+    ensures fields { OnOk result (second < places.count → PutsFields places.count places.fields first second waiting.old.items waiting.new.items) }
+    ensures none { OnOk result (places.count ≤ second → waiting.new.items ≡ waiting.old.items) }
 {
     parents[second] = first;
-    if second < count {
-        put_fields(count, fields, first, second, waiting)?;
+    if second < places.count {
+        put_fields(places, first, second, waiting)?;
     }
     Ok(())
 }
 
 /// Joins the sets of two numbers.
 fn join(
-    count: usize,
-    fields: usize,
+    places: Places,
     next: Pair,
     parents: &mut Vec<usize>,
     waiting: &mut Vec<Pair>,
 ) -> Result<(), AllocError>
-    requires small { count * (fields + 1) < 2 ^ 64 }
-    requires sets { AreSets count fields parents.old.items (waiting.old.items ++ next ∷ []) }
-    ensures { OnOk result (IsStep count fields next.a next.b parents.old.items waiting.old.items parents.new.items waiting.new.items) }
+    requires sets { AreSets places.count places.fields parents.old.items (waiting.old.items ++ next ∷ []) }
+    ensures { OnOk result (IsStep places.count places.fields next.a next.b parents.old.items waiting.old.items parents.new.items waiting.new.items) }
 {
     let a = least_of(parents, next.a);
     let b = least_of(parents, next.b);
-    if a < b {
-        lead(count, fields, a, b, parents, waiting)
-    } else if b < a {
-        lead(count, fields, b, a, parents, waiting)
-    } else {
-        Ok(())
+    if a == b {
+        return Ok(());
     }
+    lead(places, a.min(b), a.max(b), parents, waiting)
 }
 
 /// Joins until nothing waits.
 fn settle(
-    count: usize,
-    fields: usize,
+    places: Places,
     parents: &mut Vec<usize>,
     waiting: &mut Vec<Pair>,
 ) -> Result<(), AllocError>
-    requires small { count * (fields + 1) < 2 ^ 64 }
-    requires sets { AreSets count fields parents.old.items waiting.old.items }
-    ensures forest { OnOk result (AreSets count fields parents.new.items []) }
-    ensures joined { OnOk result ((pairs : List Pairing) → AreOnWay pairs count fields parents.old.items waiting.old.items → AreOnWay pairs count fields parents.new.items []) }
+    requires sets { AreSets places.count places.fields parents.old.items waiting.old.items }
+    ensures forest { OnOk result (AreSets places.count places.fields parents.new.items []) }
+    ensures joined { OnOk result ((pairs : List Pairing) → AreOnWay pairs places.count places.fields parents.old.items waiting.old.items → AreOnWay pairs places.count places.fields parents.new.items []) }
 {
     'joining: while let Some(next) = waiting.pop() {
-        join(count, fields, next, parents, waiting)?;
+        join(places, next, parents, waiting)?;
     }
     Ok(())
 }
@@ -186,20 +151,20 @@ fn waiting_of(
     alloc: Global,
     program: &PProgram,
     starts: &[usize],
-    count: usize,
-    fields: usize,
+    places: Places,
     links: &[Link],
 ) -> Result<Vec<Pair>, AllocError>
-    requires formed { IsFormed program.now }
+    requires program { IsSmall program.now }
     requires starts { AreStarts program.now.funcs starts.now }
-    requires count { count ≡ total program.now.funcs }
-    requires small { count * (fields + 1) < 2 ^ 64 }
-    requires fields { (base : Held) (field : ℕ) (value : Held) → Contains links.now (Access base field value) → field < fields }
-    ensures { IfOk result (λ waiting. waiting.items ≡ flat_map (pairs_of program.now count) links.now) }
+    requires count { places.count ≡ total program.now.funcs }
+    requires fields { (base : Held) (field : ℕ) (value : Held) → Contains links.now (Access base field value) → field < places.fields }
+    ensures { IfOk result (λ waiting. waiting.items ≡ flat_map (pairs_of program.now places.count) links.now) }
 {
     let mut waiting = Vec::new(alloc);
     for link in links {
-        put_pair(program, starts, count, fields, link, &mut waiting)?;
+        if let Some(pair) = pair_of(program, starts, places, link) {
+            waiting.push(pair)?;
+        }
     }
     Ok(waiting)
 }
@@ -209,20 +174,17 @@ pub(crate) fn joined(
     alloc: Global,
     program: &PProgram,
     starts: &[usize],
-    count: usize,
-    fields: usize,
+    places: Places,
     links: &[Link],
 ) -> Result<Vec<usize>, AllocError>
-    requires formed { IsFormed program.now }
+    requires program { IsSmall program.now }
     requires starts { AreStarts program.now.funcs starts.now }
-    requires count { count ≡ total program.now.funcs }
-    requires few { fields ≤ 2 ^ 32 }
-    requires small { count * (fields + 1) < 2 ^ 64 }
-    requires fields { (base : Held) (field : ℕ) (value : Held) → Contains links.now (Access base field value) → field < fields }
-    ensures { IfOk result (λ labels. AreLabelsOf (flat_map (pairs_of program.now count) links.now) count fields labels.items) }
+    requires count { places.count ≡ total program.now.funcs }
+    requires fields { (base : Held) (field : ℕ) (value : Held) → Contains links.now (Access base field value) → field < places.fields }
+    ensures { IfOk result (λ labels. AreLabelsOf (flat_map (pairs_of program.now places.count) links.now) places.count places.fields labels.items) }
 {
-    let mut waiting = waiting_of(alloc, program, starts, count, fields, links)?;
-    let mut parents = apart(alloc, (fields + 1) * count)?;
-    settle(count, fields, &mut parents, &mut waiting)?;
+    let mut waiting = waiting_of(alloc, program, starts, places, links)?;
+    let mut parents = apart(alloc, places.len())?;
+    settle(places, &mut parents, &mut waiting)?;
     labels_of(alloc, parents.as_slice())
 }

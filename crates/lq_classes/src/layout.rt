@@ -1,10 +1,9 @@
 //! The numbers of a program's slots and results, in order of function and slot, each result behind the slots of its function.
 
-ghost use Rattle.std.specs.Prelude.{◌≡◌, ◌++◌, OnOk, IfOk, Some};
-ghost use Rattle.lq_tree.specs.Formed.{IsFormed};
+ghost use Rattle.std.specs.Prelude.{◌≡◌, ◌++◌, OnOk, IfOk, Some, length};
 ghost use Rattle.lq_tree.specs.Types as types;
 ghost use Rattle.lq_classes.specs.Classes.{type_in};
-ghost use Rattle.lq_classes.specs.Layout.{AreStarts, number_if, pointers_in, pointers};
+ghost use Rattle.lq_classes.specs.Layout.{IsSmall, total, AreStarts, number_if, pointers_in, pointers};
 
 use crate::Var;
 use lq_tree::{PFunc, PProgram, declared};
@@ -36,7 +35,7 @@ fn is_pointer(function: &PFunc, slot: usize) -> bool
 
 /// For each function the number of its first slot.
 pub(crate) fn starts_of(alloc: Global, program: &PProgram) -> Result<Vec<usize>, AllocError>
-    requires { IsFormed program.now }
+    requires { IsSmall program.now }
     ensures { IfOk result (λ starts. AreStarts program.now.funcs starts.items) }
 {
     let mut starts = Vec::new(alloc);
@@ -50,7 +49,7 @@ pub(crate) fn starts_of(alloc: Global, program: &PProgram) -> Result<Vec<usize>,
 
 /// The number of a variable, or `None` where it isn't one.
 pub(crate) fn number_of(program: &PProgram, starts: &[usize], var: Var) -> Option<usize>
-    requires formed { IsFormed program.now }
+    requires small { IsSmall program.now }
     requires starts { AreStarts program.now.funcs starts.now }
     ensures { result ≡ number_if program.now var }
 {
@@ -75,7 +74,8 @@ fn put_pointers(function: &PFunc, pointers: &mut Vec<bool>) -> Result<(), AllocE
 
 /// For each number whether it is that of a variable.
 pub(crate) fn pointers_of(alloc: Global, program: &PProgram) -> Result<Vec<bool>, AllocError>
-    ensures { IfOk result (λ found. found.items ≡ pointers program.now.funcs) }
+    ensures size { IfOk result (λ found. length found.items ≡ total program.now.funcs) }
+    ensures each { IfOk result (λ found. found.items ≡ pointers program.now.funcs) }
 {
     let mut pointers = Vec::new(alloc);
     for function in program.funcs.as_slice() {

@@ -8,6 +8,7 @@ mod layout;
 mod links;
 mod map;
 mod numbers;
+mod places;
 mod var;
 
 pub use map::{ClassMap, class_of, classes, same};

@@ -5,8 +5,8 @@ ghost use Rattle.std.specs.List.{flat_map};
 ghost use Rattle.lq_tree.specs.declared.plain.Branch.{Branch as Block};
 ghost use Rattle.lq_tree.specs.declared.plain.PKind.{Call};
 ghost use Rattle.lq_tree.specs.PlainWalk.{within_branch};
-ghost use Rattle.lq_tree.specs.Formed.{IsFormed};
 ghost use Rattle.lq_classes.specs.Classes as spec;
+ghost use Rattle.lq_classes.specs.Layout.{IsSmall};
 ghost use Rattle.lq_classes.specs.Links.{flow_from, stored_from, passed_to, own_links, each_links, kind_links, body_links, links_from};
 
 use crate::Var;
@@ -41,7 +41,7 @@ fn root(value: &PExpr) -> Option<u32>
 
 /// The result of the function with this number.
 fn result_in(program: &PProgram, func: u32) -> Var
-    requires { IsFormed program.now }
+    requires { IsSmall program.now }
     ensures { result ≡ spec.result_in program.now func }
 {
     match program.funcs.get(func as usize) {
@@ -117,7 +117,7 @@ fn put_call(
     args: &[PExpr],
     links: &mut Vec<Link>,
 ) -> Result<(), AllocError>
-    requires { IsFormed program.now }
+    requires { IsSmall program.now }
     ensures { OnOk result (links.new.items ≡ links.old.items ++ own_links program.now func (Call to callee args.now)) }
 {
     let count = param_count(program, callee);
@@ -135,7 +135,7 @@ fn put_own(
     kind: &PKind,
     links: &mut Vec<Link>,
 ) -> Result<(), AllocError>
-    requires { IsFormed program.now }
+    requires { IsSmall program.now }
     ensures { OnOk result (links.new.items ≡ links.old.items ++ own_links program.now func kind.now) }
 {
     match kind {
@@ -162,7 +162,7 @@ fn put_statement(
     kind: &PKind,
     links: &mut Vec<Link>,
 ) -> Result<(), AllocError>
-    requires { IsFormed program.now }
+    requires { IsSmall program.now }
     ensures { OnOk result (links.new.items ≡ links.old.items ++ kind_links program.now func kind.now) }
 {
     put_own(program, func, kind, links)?;
@@ -191,7 +191,7 @@ fn put_statements(
     body: &[PStmt],
     links: &mut Vec<Link>,
 ) -> Result<(), AllocError>
-    requires { IsFormed program.now }
+    requires { IsSmall program.now }
     ensures { OnOk result (links.new.items ≡ links.old.items ++ body_links program.now func body.now) }
 {
     for statement in body {
@@ -208,7 +208,7 @@ fn put_branches(
     blocks: &[Branch],
     links: &mut Vec<Link>,
 ) -> Result<(), AllocError>
-    requires { IsFormed program.now }
+    requires { IsSmall program.now }
     ensures { OnOk result (links.new.items ≡ links.old.items ++ flat_map (λ (branch : Block). each_links program.now func (within_branch branch)) blocks.now) }
 {
     for branch in blocks {
@@ -219,7 +219,7 @@ fn put_branches(
 
 /// What all statements of a program say.
 pub(crate) fn links_of(alloc: Global, program: &PProgram) -> Result<Vec<Link>, AllocError>
-    requires { IsFormed program.now }
+    requires { IsSmall program.now }
     ensures { IfOk result (λ links. links.items ≡ links_from program.now 0 program.now.funcs) }
 {
     let mut links = Vec::new(alloc);

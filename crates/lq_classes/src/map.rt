@@ -3,7 +3,7 @@
 ghost use Rattle.std.specs.Prelude.{◌≡◌, ℕ, IfOk, length, IsTrue, ◌↔◌};
 ghost use Rattle.lq_tree.specs.Formed.{IsFormed};
 ghost use Rattle.lq_classes.specs.Classes.{class_at, is_variable, Same, AreClasses};
-ghost use Rattle.lq_classes.specs.Layout.{total, parts_of};
+ghost use Rattle.lq_classes.specs.Layout.{IsSmall, total, parts_of};
 ghost use Rattle.lq_tree.specs.declared.plain.PProgram.{PProgram as Plain};
 
 use crate::Var;
@@ -11,6 +11,7 @@ use crate::joins::{fields_of, joined};
 use crate::layout::{pointers_of, starts_of};
 use crate::links::links_of;
 use crate::numbers::numbers_of;
+use crate::places::Places;
 use lq_tree::{Items, PProgram};
 use std::alloc::{AllocError, Global};
 use std::marker::Model;
@@ -38,7 +39,7 @@ fn rows_of(
     program: &PProgram,
     numbers: &[u32],
 ) -> Result<Items<Items<u32>>, AllocError>
-    requires formed { IsFormed program.now }
+    requires small { IsSmall program.now }
     requires size { length numbers.now ≡ total program.now.funcs }
     ensures { IfOk result (λ rows. rows ≡ parts_of program.now.funcs numbers.now) }
 {
@@ -52,26 +53,29 @@ fn rows_of(
     Ok(rows)
 }
 
-/// The classes of a program (docs/CHECKING.md, "Classes").
-pub fn classes(alloc: Global, program: &PProgram) -> Result<ClassMap, AllocError>
-    requires { IsFormed program.now }
+// The classes of a program that is small, whether or not it is formed.
+fn classes_of_small(alloc: Global, program: &PProgram) -> Result<ClassMap, AllocError>
+    requires { IsSmall program.now }
     ensures { IfOk result (AreClasses program.now) }
 {
     let starts = starts_of(alloc, program)?;
     let pointers = pointers_of(alloc, program)?;
     let links = links_of(alloc, program)?;
+    let count = pointers.len();
     let fields = fields_of(links.as_slice());
-    let labels = joined(
-        alloc,
-        program,
-        starts.as_slice(),
-        pointers.len(),
-        fields,
-        links.as_slice(),
-    )?;
+    let places = Places { count, fields };
+    let labels = joined(alloc, program, starts.as_slice(), places, links.as_slice())?;
     let numbers = numbers_of(alloc, pointers.as_slice(), labels.as_slice())?;
     let rows = rows_of(alloc, program, numbers.as_slice())?;
     Ok(ClassMap { rows })
+}
+
+/// The classes of a program (docs/CHECKING.md, "Classes").
+pub fn classes(alloc: Global, program: &PProgram) -> Result<ClassMap, AllocError>
+    requires { IsFormed program.now }
+    ensures { IfOk result (AreClasses program.now) }
+{
+    classes_of_small(alloc, program)
 }
 
 /// The number of the class of a variable.

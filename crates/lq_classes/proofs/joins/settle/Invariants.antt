@@ -6,9 +6,9 @@ use Rattle.lq_classes.proofs.joins.settle.Given as goal
 abbrev pub invariant-joining : goal.invariant-joining
 invariant-joining l =
     record {
-      sets : AreSets l.count l.fields l.parents.items l.waiting.items;
-      onward : (pairs : List Pair) → AreOnWay pairs l.count l.fields l.fn.parents.items l.fn.waiting.items → AreOnWay pairs l.count l.fields l.parents.items l.waiting.items;
+      sets : AreSets l.places.count l.places.fields l.parents.items l.waiting.items;
+      onward : (pairs : List Pair) → AreOnWay pairs l.places.count l.places.fields l.fn.parents.items l.fn.waiting.items → AreOnWay pairs l.places.count l.places.fields l.parents.items l.waiting.items;
     }
 
 abbrev pub decreases-joining : goal.decreases-joining
-decreases-joining l = work l.fields l.parents.items l.waiting.items
+decreases-joining l = work l.places.fields l.parents.items l.waiting.items

@@ -1,5 +1,6 @@
 use Rattle.std.proofs.Common.{List, ap, sym, ◌∙◌, ◌++◌, arith}
 use Rattle.std.specs.List.{flat_map}
+use Rattle.std.proofs.lemmas.List.{take_all}
 use Rattle.std.proofs.lemmas.Result.{on_ok_weaker}
 use Rattle.lq_tree.specs.declared.plain.Branch.{Branch}
 use Rattle.lq_tree.specs.PlainWalk.{inside, within_branch}
@@ -43,3 +44,8 @@ put_branches-loop-branch-preserved t c =
     pieces_more (λ (b : Branch). each_links c.args.program.now c.args.func (within_branch b)) c.args.links.now.items c.loop-branch.links.items c.put_statements.new.links.items c.args.blocks.now c.loop-branch.branch-index c.branch-item.result
     (omega arith) c.branch-item.is c.loop-branch.invariant
     (c.in_ok-put_statements.ensures ∙ ap (λ (xs : List Link). c.loop-branch.links.items ++ xs) (branch_says c.args.program.now c.args.func c.branch-item.result c.as_slice.result.now c.as_slice.ensures))
+
+pub put_branches-returns : goal.put_branches-returns
+put_branches-returns t c =
+    let says : List Branch → List Link = λ blocks. flat_map (λ (b : Branch). each_links c.args.program.now c.args.func (within_branch b)) blocks in
+    c.loop-branch.invariant ∙ ap (λ (bs : List Branch). c.args.links.now.items ++ says bs) (take_all c.loop-branch.branch-index c.args.blocks.now (omega (arith, c.loop-branch-test.false)))
