@@ -1,0 +1,16 @@
+pub mod Lives
+pub mod Spots
+pub mod Classes
+pub mod Accesses
+pub mod Touches
+pub mod Makers
+pub mod Names
+pub mod Templates
+pub mod Firsts
+pub mod Reading
+pub mod Listing
+pub mod Instances
+pub mod Conditions
+pub mod Search
+pub mod Cuts
+pub mod Faults
