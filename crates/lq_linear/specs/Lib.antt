@@ -6,3 +6,5 @@ pub mod Weight
 pub mod Item
 pub mod Derivation
 pub mod Certificate
+pub mod Collect
+pub mod Sides

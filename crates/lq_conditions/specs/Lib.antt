@@ -1,0 +1,5 @@
+pub mod Ground
+pub mod After
+pub mod Asked
+pub mod Conditions
+pub mod There

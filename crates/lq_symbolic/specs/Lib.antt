@@ -1,0 +1,4 @@
+pub mod State
+pub mod Value
+pub mod Assume
+pub mod Stands

@@ -1,0 +1,6 @@
+pub mod Parts
+pub mod MoreFacts
+pub mod Agreement
+pub mod Shown
+pub mod worked
+pub mod Validity
