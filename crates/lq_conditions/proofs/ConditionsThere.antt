@@ -25,7 +25,9 @@ use Rattle.lq_templates.specs.Spots.{Walk, with_index, walked, walked_row, walke
 use Rattle.lq_templates.specs.Conditions.{asks, site, absurdity}
 use Rattle.lq_symbolic.specs.declared.value.SymValue.{SymValue}
 use Rattle.lq_symbolic.specs.declared.value.SymValue.TheVariants.{Int as OfInt}
-use Rattle.lq_symbolic.specs.State.{length_of, Start, State, Valued, with_rows, taken, not_below_zero}
+use Rattle.lq_symbolic.specs.declared.state.Start.{Start}
+use Rattle.lq_symbolic.specs.declared.state.SymState.{SymState as State}
+use Rattle.lq_symbolic.specs.State.{length_of, Valued, with_rows, taken, not_below_zero}
 use Rattle.lq_symbolic.specs.Value.{value, all_values}
 use Rattle.lq_symbolic.specs.Assume.{assumed}
 use Rattle.lq_heap.specs.Records.{Reached, fold_all, folded, zero_parts, asked_opening}

@@ -22,7 +22,9 @@ use Rattle.lq_templates.specs.Spots.{Spot, join, loop, Walk, changed, where_chan
 use Rattle.lq_templates.specs.Templates.{spot_templates}
 use Rattle.lq_symbolic.specs.declared.value.SymValue.{SymValue}
 use Rattle.lq_symbolic.specs.declared.value.SymValue.TheVariants.{Ptr as OfPointer}
-use Rattle.lq_symbolic.specs.State.{form_of, pointer_of, length_of, parts, Start, State, Valued, value_at, with_items, taken, next_block, new_of}
+use Rattle.lq_symbolic.specs.declared.state.Start.{Start}
+use Rattle.lq_symbolic.specs.declared.state.SymState.{SymState as State}
+use Rattle.lq_symbolic.specs.State.{form_of, pointer_of, length_of, parts, Valued, value_at, with_items, taken, next_block, new_of}
 use Rattle.lq_symbolic.specs.Value.{value, all_values}
 use Rattle.lq_symbolic.specs.Assume.{assumed}
 use Rattle.lq_heap.specs.Records.{Reached, folded}

@@ -16,7 +16,10 @@ use Rattle.lq_templates.specs.declared.condition.Rule.{Rule}
 use Rattle.lq_templates.specs.Conditions.{asks}
 use Rattle.lq_symbolic.specs.declared.value.SymPtr.{SymPtr}
 use Rattle.lq_symbolic.specs.declared.value.SymValue.{SymValue}
-use Rattle.lq_symbolic.specs.State.{all_parts, FieldType, Opened, State, put, with_items, with_rows, taken, new_of, new_values, renew}
+use Rattle.lq_symbolic.specs.declared.state.FieldType.{FieldType}
+use Rattle.lq_symbolic.specs.declared.state.Opened.{Opened}
+use Rattle.lq_symbolic.specs.declared.state.SymState.{SymState as State}
+use Rattle.lq_symbolic.specs.State.{all_parts, put, with_items, with_rows, taken, new_of, new_values, renew}
 use Rattle.lq_symbolic.specs.Value.{bounded_or_new, value, all_values}
 use Rattle.lq_symbolic.specs.Assume.{assumed}
 use Rattle.lq_heap.specs.Records.{opened_of, with_opened, is_at, fold_of, fold_all, folded, fold_other, asked_opening, open_new, open_record, with_fields, write_field}

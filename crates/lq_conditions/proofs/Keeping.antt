@@ -16,7 +16,9 @@ use Rattle.lq_templates.specs.declared.condition.Given.TheVariants.{Fixed}
 use Rattle.lq_symbolic.specs.declared.value.SymPtr.{SymPtr}
 use Rattle.lq_symbolic.specs.declared.value.SymValue.{SymValue}
 use Rattle.lq_symbolic.specs.declared.value.SymValue.TheVariants.{Int as OfInt}
-use Rattle.lq_symbolic.specs.State.{form_of, pointer_of, length_of, FieldType, State, Valued, with_items, with_bounded, with_row, with_rows, taken, not_below_zero, next_block, new_int, new_pointer, new_null, new_of, new_values}
+use Rattle.lq_symbolic.specs.declared.state.FieldType.{FieldType}
+use Rattle.lq_symbolic.specs.declared.state.SymState.{SymState as State}
+use Rattle.lq_symbolic.specs.State.{form_of, pointer_of, length_of, Valued, with_items, with_bounded, with_row, with_rows, taken, not_below_zero, next_block, new_int, new_pointer, new_null, new_of, new_values}
 use Rattle.lq_symbolic.specs.Value.{known, known_or_new, bounded_or_new, number, number_of, factor_of, multiple_or, product, divisor_of, new_with, quotient, remainder, both, operated, shifted, value, value_row, all_values}
 use Rattle.lq_symbolic.specs.Assume.{compared, with_compared, with_int, with_null, each_if, with_operated, assumed, assumed_row}
 
@@ -59,7 +61,7 @@ module _ (P : State → Type 0) (on_taken : (count : ℕ) (s : State) → P s �
 
   pub new_values_keep : (fields : List FieldType) (s : State) → P s → P (new_values fields s).state
   new_values_keep [] s h = h
-  new_values_keep (f ∷ fields) s h = new_values_keep fields (new_of f.class f.type s).state (new_of_keeps f.class f.type s h)
+  new_values_keep (f ∷ fields) s h = new_values_keep fields (new_of f.class f.ctype s).state (new_of_keeps f.class f.ctype s h)
 
   known_or_new_keeps : (form : Option Linear) → Keeps (known_or_new form)
   known_or_new_keeps None = new_int_keeps

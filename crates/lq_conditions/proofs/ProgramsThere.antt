@@ -19,7 +19,8 @@ use Rattle.lq_templates.specs.Lives.{lives, all_live}
 use Rattle.lq_templates.specs.Spots.{Walk, walked, walked_all, params_of, spots}
 use Rattle.lq_templates.specs.Templates.{Env, record_templates, border_templates, effect_templates, spot_templates, function_templates, functions_templates, all_templates, count_scopes}
 use Rattle.lq_symbolic.specs.declared.value.SymValue.TheVariants.{Int as OfInt, Ptr as OfPointer}
-use Rattle.lq_symbolic.specs.State.{length_of, State, value_at, taken, next_block, not_below_zero}
+use Rattle.lq_symbolic.specs.declared.state.SymState.{SymState as State}
+use Rattle.lq_symbolic.specs.State.{length_of, value_at, taken, next_block, not_below_zero}
 use Rattle.lq_symbolic.specs.Value.{value}
 use Rattle.lq_conditions.specs.There.{IsNumber, AreThere}
 use Rattle.lq_conditions.specs.Ground.{Ground, class_of_slot, put_slot, param_values, renewed, pre_rows, is_pre}

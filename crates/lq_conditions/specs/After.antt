@@ -13,7 +13,8 @@ use Rattle.lq_templates.specs.Lives.{list_lives}
 use Rattle.lq_templates.specs.Spots.{Walk, walked}
 use Rattle.lq_symbolic.specs.declared.value.SymValue.{SymValue}
 use Rattle.lq_symbolic.specs.declared.value.SymValue.TheVariants.{Ptr as OfPointer}
-use Rattle.lq_symbolic.specs.State.{form_of, pointer_of, length_of, parts, State, Valued, value_at, with_items, with_rows, taken, next_block, new_of}
+use Rattle.lq_symbolic.specs.declared.state.SymState.{SymState as State}
+use Rattle.lq_symbolic.specs.State.{form_of, pointer_of, length_of, parts, Valued, value_at, with_items, with_rows, taken, next_block, new_of}
 use Rattle.lq_symbolic.specs.Value.{value, all_values}
 use Rattle.lq_symbolic.specs.Assume.{assumed}
 use Rattle.lq_heap.specs.Records.{Reached, reached, folded, open_record, read_field, write_field}

@@ -23,7 +23,8 @@ use Rattle.lq_templates.specs.Accesses.{Access}
 use Rattle.lq_templates.specs.Conditions.{site, asks, absurdity}
 use Rattle.lq_symbolic.specs.declared.value.SymValue.{SymValue}
 use Rattle.lq_symbolic.specs.declared.value.SymValue.TheVariants.{Int as OfInt}
-use Rattle.lq_symbolic.specs.State.{length_of, parts, not_below_zero, State, Valued, with_rows, taken}
+use Rattle.lq_symbolic.specs.declared.state.SymState.{SymState as State}
+use Rattle.lq_symbolic.specs.State.{length_of, parts, not_below_zero, Valued, with_rows, taken}
 use Rattle.lq_symbolic.specs.Value.{value, all_values}
 use Rattle.lq_symbolic.specs.Assume.{assumed}
 use Rattle.lq_heap.specs.Records.{Reached, fold_all, folded, zero_parts, asked_opening}

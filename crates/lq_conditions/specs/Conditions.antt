@@ -21,7 +21,8 @@ use Rattle.lq_templates.specs.Spots.{Walk, params_of, spots}
 use Rattle.lq_templates.specs.Templates.{Env, record_templates, border_templates, effect_templates, function_templates, all_templates, count_scopes}
 use Rattle.lq_templates.specs.Conditions.{IsMet, IsValid}
 use Rattle.lq_symbolic.specs.declared.value.SymValue.TheVariants.{Int as OfInt, Ptr as OfPointer}
-use Rattle.lq_symbolic.specs.State.{length_of, State, Valued, value_at, with_items, with_rows, taken, next_block, not_below_zero}
+use Rattle.lq_symbolic.specs.declared.state.SymState.{SymState as State}
+use Rattle.lq_symbolic.specs.State.{length_of, Valued, value_at, with_items, with_rows, taken, next_block, not_below_zero}
 use Rattle.lq_symbolic.specs.Value.{value}
 use Rattle.lq_conditions.specs.Ground.{Ground, slots_of, class_of_slot, put_slot, param_values, renewed, in_scope, pre_rows}
 use Rattle.lq_conditions.specs.After.{after_all}

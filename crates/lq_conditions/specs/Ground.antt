@@ -24,7 +24,10 @@ use Rattle.lq_templates.specs.Spots.{Walk, inner_scope, spot_at, passed, closed,
 use Rattle.lq_templates.specs.Templates.{Env, spot_templates, count_scopes}
 use Rattle.lq_symbolic.specs.declared.value.SymValue.{SymValue}
 use Rattle.lq_symbolic.specs.declared.value.SymValue.TheVariants.{Int as OfInt}
-use Rattle.lq_symbolic.specs.State.{parts, FieldType, Start, State, value_at, put, with_items, renew}
+use Rattle.lq_symbolic.specs.declared.state.FieldType.{FieldType}
+use Rattle.lq_symbolic.specs.declared.state.Start.{Start}
+use Rattle.lq_symbolic.specs.declared.state.SymState.{SymState as State}
+use Rattle.lq_symbolic.specs.State.{parts, value_at, put, with_items, renew}
 
 -- ---- the ground of a walk
 
@@ -71,7 +74,7 @@ classes_moved class_of class field number (f ∷ funcs) =
 abbrev pub fields_from : Ground → (class field : ℕ) → List Param → List FieldType
 fields_from g class field [] = []
 fields_from g class field (f ∷ later) =
-    record { type = f.ctype; class = slice_index_or (classes_moved g.env.class_of class field 0 g.env.program.funcs) 0 0 }
+    record { ctype = f.ctype; class = slice_index_or (classes_moved g.env.class_of class field 0 g.env.program.funcs) 0 0 }
     ∷ fields_from g class (suc field) later
 
 -- the fields of what a slot points to

@@ -12,7 +12,7 @@ use Rattle.lq_templates.specs.declared.condition.Condition.{Condition}
 use Rattle.lq_templates.specs.declared.template.Template.{Template}
 use Rattle.lq_templates.specs.Accesses.{Access}
 use Rattle.lq_templates.specs.Conditions.{asks, absurdity}
-use Rattle.lq_symbolic.specs.State.{Start}
+use Rattle.lq_symbolic.specs.declared.state.Start.{Start}
 use Rattle.lq_effects.specs.Effects.{Effect, effects_of, effect_rows}
 
 -- a branch: the place of its block, and how its scope starts

@@ -13,7 +13,8 @@ use Rattle.lq_templates.specs.declared.template.TemplateKind.TheVariants.{Effect
 use Rattle.lq_templates.specs.declared.template.Template.{Template}
 use Rattle.lq_templates.specs.Accesses.{Access, same_access}
 use Rattle.lq_templates.specs.Conditions.{asks}
-use Rattle.lq_symbolic.specs.State.{Start, State}
+use Rattle.lq_symbolic.specs.declared.state.Start.{Start}
+use Rattle.lq_symbolic.specs.declared.state.SymState.{SymState as State}
 
 -- an effect template: its number, and the access that it stands for
 pub record Effect : Type 0 where

@@ -3,7 +3,7 @@
 ghost use Rattle.std.specs.Prelude.{◌≡◌, ℕ, List, []};
 ghost use Rattle.lq_linear.specs.Form.{Linear};
 ghost use Rattle.lq_templates.specs.declared.condition.Site.{Site};
-ghost use Rattle.lq_symbolic.specs.State.{State};
+ghost use Rattle.lq_symbolic.specs.declared.state.SymState.{SymState as State};
 ghost use Rattle.lq_effects.specs.Effects.{asked_calls};
 
 /// Without templates nothing is asked of the accesses of a call.

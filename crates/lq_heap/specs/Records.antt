@@ -14,7 +14,10 @@ use Rattle.lq_templates.specs.Conditions.{asks}
 use Rattle.lq_symbolic.specs.declared.value.SymPtr.{SymPtr}
 use Rattle.lq_symbolic.specs.declared.value.SymValue.{SymValue}
 use Rattle.lq_symbolic.specs.declared.value.SymValue.TheVariants.{Int as OfInt}
-use Rattle.lq_symbolic.specs.State.{form_of, all_parts, FieldType, Opened, State, with_items, new_values}
+use Rattle.lq_symbolic.specs.declared.state.FieldType.{FieldType}
+use Rattle.lq_symbolic.specs.declared.state.Opened.{Opened}
+use Rattle.lq_symbolic.specs.declared.state.SymState.{SymState as State}
+use Rattle.lq_symbolic.specs.State.{form_of, all_parts, with_items, new_values}
 use Rattle.lq_symbolic.specs.Value.{bounded_or_new}
 
 -- ---- which element is reached
@@ -74,7 +77,7 @@ folded s = record s { opened = [] }
 
 -- what the name or names of a field of a fresh block stand for: 0, or offset and length 0
 abbrev pub zero_parts : FieldType → List Linear
-zero_parts field = if field.type.stars == 0 then constant (pos 0) ∷ [] else constant (pos 0) ∷ constant (pos 0) ∷ []
+zero_parts field = if field.ctype.stars == 0 then constant (pos 0) ∷ [] else constant (pos 0) ∷ constant (pos 0) ∷ []
 
 -- ---- opening
 

@@ -10,7 +10,9 @@ use Rattle.lq_templates.specs.declared.condition.Assign.{Assign}
 use Rattle.lq_templates.specs.Conditions.{RowsHold}
 use Rattle.lq_symbolic.specs.declared.value.SymValue.{SymValue}
 use Rattle.lq_symbolic.specs.declared.value.SymValue.TheVariants.{Int as OfInt}
-use Rattle.lq_symbolic.specs.State.{FieldType, Opened, State}
+use Rattle.lq_symbolic.specs.declared.state.FieldType.{FieldType}
+use Rattle.lq_symbolic.specs.declared.state.Opened.{Opened}
+use Rattle.lq_symbolic.specs.declared.state.SymState.{SymState as State}
 use Rattle.lq_symbolic.specs.Stands.{View, AgreeBelow, Sorted, IsBlockOf, StandsFor, LocalsStand, ItemsMet}
 
 -- the fields of each class
@@ -61,7 +63,7 @@ word_numbers memory type word =
 abbrev pub record_numbers : Blocks → (block element field : ℕ) → List FieldType → List ℤ
 record_numbers memory block element field [] = []
 record_numbers memory block element field (f ∷ later) =
-    word_numbers memory f.type (word_at memory (address block element field)) ++ record_numbers memory block element (suc field) later
+    word_numbers memory f.ctype (word_at memory (address block element field)) ++ record_numbers memory block element (suc field) later
 
 -- a word in memory is null, or points to a block of this class
 abbrev pub PointsTo : Sorted → (class : ℕ) → (word : ℤ) → Type 0
@@ -71,7 +73,7 @@ PointsTo m class word = (word ≡ null) ⊎ ((block_of word ≤ length m.memory)
 abbrev pub PointersSorted : Sorted → (block element field : ℕ) → List FieldType → Type 0
 PointersSorted m block element field [] = Unit {0}
 PointersSorted m block element field (f ∷ later) =
-    ((f.type.stars == 0) ≡ false → PointsTo m f.class (word_at m.memory (address block element field)))
+    ((f.ctype.stars == 0) ≡ false → PointsTo m f.class (word_at m.memory (address block element field)))
     × PointersSorted m block element (suc field) later
 
 -- a record meets its class's template, and its pointers point to their classes

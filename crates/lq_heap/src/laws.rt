@@ -2,7 +2,7 @@
 
 ghost use Rattle.std.specs.Prelude.{◌≡◌, []};
 ghost use Rattle.lq_templates.specs.declared.condition.Site.{Site};
-ghost use Rattle.lq_symbolic.specs.State.{State};
+ghost use Rattle.lq_symbolic.specs.declared.state.SymState.{SymState as State};
 ghost use Rattle.lq_heap.specs.Records.{fold_all, folded};
 
 /// Where all records are folded there is nothing more to fold.

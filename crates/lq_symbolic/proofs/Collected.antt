@@ -105,11 +105,11 @@ are_collected terms = record { ascending = collected_ascends terms; no_zero = co
 
 -- ---- the bounds
 
-within_if : (n : ℕ) (z : ℤ) → is_within n z ≡ true → IsWithin n z
+pub within_if : (n : ℕ) (z : ℤ) → is_within n z ≡ true → IsWithin n z
 within_if n (pos k) e = let most = leb-true k n e in record { low = omega (arith, ints, most); high = omega (arith, ints, most) }
 within_if n (negsuc k) e = let most = leb-true (suc k) n e in record { low = omega (arith, ints, most); high = omega (arith, ints, most) }
 
-if_within : (n : ℕ) (z : ℤ) → IsWithin n z → is_within n z ≡ true
+pub if_within : (n : ℕ) (z : ℤ) → IsWithin n z → is_within n z ≡ true
 if_within n (pos k) w = let high = w.high in le-leb k n (omega (arith, ints, high))
 if_within n (negsuc k) w = let low = w.low in le-leb (suc k) n (omega (arith, ints, low))
 
@@ -135,7 +135,7 @@ if_bounded terms z h w = both_true (both_true (le-leb (length terms) 16 h.few) (
 
 -- ---- forms
 
-some_if : {X : Type 0} (test : Bool) (x y : X) → ◌≡◌ {A = Option X} (cond test (Some x) None) (Some y) → (test ≡ true) × (x ≡ y)
+pub some_if : {X : Type 0} (test : Bool) (x y : X) → ◌≡◌ {A = Option X} (cond test (Some x) None) (Some y) → (test ≡ true) × (x ≡ y)
 some_if true x y e = (refl, cc)
 some_if false x y e = absurd cc
 

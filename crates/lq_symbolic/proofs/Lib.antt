@@ -1,2 +1,4 @@
 pub mod Collected
+pub mod Sums
+pub mod Given
 pub mod worked

@@ -7,7 +7,8 @@ use Rattle.lq_linear.specs.Form.{Linear}
 use Rattle.lq_linear.specs.Row.{Inequality}
 use Rattle.lq_linear.specs.Collect.{constant}
 use Rattle.lq_linear.specs.Sides.{at_most, below, equal}
-use Rattle.lq_symbolic.specs.State.{form_of, pointer_of, length_of, State, Valued, with_row, with_rows}
+use Rattle.lq_symbolic.specs.declared.state.SymState.{SymState as State}
+use Rattle.lq_symbolic.specs.State.{form_of, pointer_of, length_of, Valued, with_row, with_rows}
 use Rattle.lq_symbolic.specs.Value.{value, value_row}
 
 -- the rows of a comparison that holds, or that doesn't

@@ -1,4 +1,5 @@
 pub mod State
 pub mod Value
 pub mod Assume
+pub mod Told
 pub mod Stands

@@ -11,7 +11,8 @@ use Rattle.lq_templates.specs.Conditions.{items_of}
 use Rattle.lq_symbolic.specs.declared.value.SymPtr.{SymPtr}
 use Rattle.lq_symbolic.specs.declared.value.SymValue.{SymValue}
 use Rattle.lq_symbolic.specs.declared.value.SymValue.TheVariants.{Int as OfInt, Ptr as OfPointer}
-use Rattle.lq_symbolic.specs.State.{State, value_at}
+use Rattle.lq_symbolic.specs.declared.state.SymState.{SymState as State}
+use Rattle.lq_symbolic.specs.State.{value_at}
 
 -- a number for each symbol, and a block of the memory for each symbol of a block: 0, which is none, for null
 pub record View : Type 0 where

@@ -1,5 +1,5 @@
 -- What the checker knows at a point of the text (docs/CHECKING.md, "State").
-use Rattle.std.specs.Prelude.{ℕ, ◌+◌, ◌==◌, if◌then◌else◌, List, [], ◌∷◌, ◌++◌, Option, None, Some, pos, slice_index_or, slice_set}
+use Rattle.std.specs.Prelude.{◌≡◌, ℕ, ◌+◌, ◌==◌, if◌then◌else◌, List, [], ◌∷◌, ◌++◌, Option, None, Some, pos, slice_index_or, slice_set}
 use Rattle.std.specs.List.{flat_map}
 use Rattle.lq_tree.specs.declared.expr.CType.{CType}
 use Rattle.lq_tree.specs.declared.plain.Slot.{Slot}
@@ -13,6 +13,8 @@ use Rattle.lq_templates.specs.declared.condition.Given.TheVariants.{Fixed}
 use Rattle.lq_symbolic.specs.declared.value.SymPtr.{SymPtr}
 use Rattle.lq_symbolic.specs.declared.value.SymValue.{SymValue}
 use Rattle.lq_symbolic.specs.declared.value.SymValue.TheVariants.{Int as OfInt, Ptr as OfPointer}
+use Rattle.lq_symbolic.specs.declared.state.FieldType.{FieldType}
+use Rattle.lq_symbolic.specs.declared.state.SymState.{SymState as State}
 
 -- ---- values
 
@@ -46,40 +48,23 @@ all_parts values = flat_map parts values
 
 -- ---- the state
 
--- a field of a class: its type, and the class of a pointer in it
-pub record FieldType : Type 0 where
-  pub type : CType
-  pub class : ℕ
-
--- the open record of a class: its block and element, and the values of its fields
-pub record Opened : Type 0 where
-  pub class : ℕ
-  pub at : SymPtr
-  pub fields : List SymValue
-
--- a scope that has begun: its number, and what its names stood for at its start
-pub record Start : Type 0 where
-  pub scope : ℕ
-  pub values : List Linear
-
--- the values of the slots, the items in the order in which they came about, the open records in order of class, the scopes around,
--- innermost first, and the symbol that is taken next
-pub record State : Type 0 where
-  pub slots : List SymValue
-  pub items : List Given
-  pub opened : List Opened
-  pub scopes : List Start
-  pub next : ℕ
-
 -- a value, and the state behind it
 pub record Valued : Type 0 where
   pub value : SymValue
   pub state : State
 
+-- a value is given, and this state is left
+abbrev pub Gives : Valued → SymValue → State → Type 0
+Gives valued value s = valued ≡ record { value = value; state = s }
+
 -- several values, and the state behind them
 pub record AllValued : Type 0 where
   pub values : List SymValue
   pub state : State
+
+-- these values are given, and this state is left
+abbrev pub GiveAll : AllValued → List SymValue → State → Type 0
+GiveAll valued values s = valued ≡ record { values = values; state = s }
 
 -- the value of the slot with this number
 abbrev pub value_at : State → ℕ → SymValue
@@ -145,7 +130,7 @@ new_of class type s = if type.stars == 0 then new_int s else new_pointer class s
 abbrev pub new_values : List FieldType → State → AllValued
 new_values [] s = record { values = []; state = s }
 new_values (field ∷ fields) s =
-    let first = new_of field.class field.type s in
+    let first = new_of field.class field.ctype s in
     let later = new_values fields first.state in
     record { values = first.value ∷ later.values; state = later.state }
 

@@ -13,7 +13,8 @@ use Rattle.lq_templates.specs.declared.condition.Given.TheVariants.{Fixed}
 use Rattle.lq_symbolic.specs.declared.value.SymPtr.{SymPtr}
 use Rattle.lq_symbolic.specs.declared.value.SymValue.{SymValue}
 use Rattle.lq_symbolic.specs.declared.value.SymValue.TheVariants.{Int as OfInt, Ptr as OfPointer}
-use Rattle.lq_symbolic.specs.State.{form_of, pointer_of, State, Valued, AllValued, value_at, with_items, with_row, taken, not_below_zero, new_int, new_null}
+use Rattle.lq_symbolic.specs.declared.state.SymState.{SymState as State}
+use Rattle.lq_symbolic.specs.State.{form_of, pointer_of, Valued, AllValued, value_at, with_items, with_row, taken, not_below_zero, new_int, new_null}
 
 -- a value that needs nothing new
 abbrev pub known : SymValue → State → Valued

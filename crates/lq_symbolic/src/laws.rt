@@ -5,7 +5,8 @@ ghost use Rattle.lq_tree.specs.declared.plain.PExpr.{PExpr, Num, Null};
 ghost use Rattle.lq_linear.specs.Form.{Linear, IsFormOf};
 ghost use Rattle.lq_linear.specs.Row.{Inequality, IsBounded};
 ghost use Rattle.lq_linear.specs.Collect.{as_form, as_row, collected};
-ghost use Rattle.lq_symbolic.specs.State.{State, new_null};
+ghost use Rattle.lq_symbolic.specs.declared.state.SymState.{SymState as State};
+ghost use Rattle.lq_symbolic.specs.State.{new_null};
 ghost use Rattle.lq_symbolic.specs.Value.{value};
 ghost use Rattle.lq_symbolic.specs.Assume.{assumed};
 

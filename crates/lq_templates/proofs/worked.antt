@@ -19,3 +19,4 @@ pub mod Middle
 pub mod Pointers
 pub mod Ends
 pub mod Nothing
+pub mod Calling

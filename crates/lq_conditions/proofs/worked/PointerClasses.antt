@@ -13,7 +13,7 @@ use Rattle.lq_templates.specs.Classes.{ClassOf}
 use Rattle.lq_templates.proofs.worked.Words.{classes}
 use Rattle.lq_symbolic.specs.declared.value.SymValue.{SymValue}
 use Rattle.lq_symbolic.specs.declared.value.SymValue.TheVariants.{Int as OfInt, Ptr as OfPointer}
-use Rattle.lq_symbolic.specs.State.{State}
+use Rattle.lq_symbolic.specs.declared.state.SymState.{SymState as State}
 use Rattle.lq_conditions.specs.Ground.{Ground, fields_of}
 use Rattle.lq_conditions.specs.After.{after_all}
 use Rattle.lq_conditions.specs.Conditions.{entered, before_body}
@@ -42,7 +42,7 @@ pointer class block offset = OfPointer (record { class = class; block = block; o
 
 -- the fields of what `s` points to: a variable is stored to `d` and one is loaded from it, none to or from `e` and `next`
 pointer-fields : fields_of ground 2 ≡
-    record { type = int 0; class = 0 } ∷ record { type = int 1; class = 3 } ∷ record { type = int 1; class = 0 } ∷ record { type = struct "S" 1; class = 0 } ∷ []
+    record { ctype = int 0; class = 0 } ∷ record { ctype = int 1; class = 3 } ∷ record { ctype = int 1; class = 0 } ∷ record { ctype = struct "S" 1; class = 0 } ∷ []
 pointer-fields = refl
 
 abbrev behind : State

@@ -5,7 +5,7 @@ use Rattle.lq_tree.specs.declared.expr.BinOp.TheVariants.{Add, Lt, Le, Gt, Ge, E
 use Rattle.lq_tree.specs.declared.plain.PExpr.{PExpr, Slot}
 use Rattle.lq_meaning.proofs.worked.PlainWords.{num, neg, not, bin, is_null}
 use Rattle.lq_templates.specs.declared.condition.Given.{Given}
-use Rattle.lq_symbolic.specs.State.{State}
+use Rattle.lq_symbolic.specs.declared.state.SymState.{SymState as State}
 use Rattle.lq_symbolic.specs.Assume.{assumed}
 use Rattle.lq_symbolic.proofs.worked.Values.{row, state}
 

@@ -13,7 +13,8 @@ use Rattle.lq_meaning.proofs.worked.PlainWords.{num, neg, not, bin, shift, is_nu
 use Rattle.lq_templates.specs.declared.condition.Given.{Given}
 use Rattle.lq_templates.specs.declared.condition.Given.TheVariants.{Fixed}
 use Rattle.lq_symbolic.specs.declared.value.SymValue.TheVariants.{Int as OfInt, Ptr as OfPointer}
-use Rattle.lq_symbolic.specs.State.{State, Valued, new_of}
+use Rattle.lq_symbolic.specs.declared.state.SymState.{SymState as State}
+use Rattle.lq_symbolic.specs.State.{Valued, new_of}
 use Rattle.lq_symbolic.specs.Value.{value, divisor_of}
 
 -- ---- words
