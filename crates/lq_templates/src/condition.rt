@@ -1,6 +1,7 @@
 //! Conditions: what the checker asks of the rows of templates.
 
 use crate::Template;
+use lq_chain::Chain;
 use lq_linear::{Form, Item, Row};
 use lq_tree::Place;
 use sqlite_items::Items;
@@ -42,10 +43,11 @@ pub struct Site {
     pub fields: (u32, u32),
 }
 
-/// From the facts each goal is to follow (docs/CHECKING.md, "Conditions").
+/// From the facts each goal is to follow (docs/CHECKING.md, "Conditions"). Conditions that follow one another have the
+/// front of their facts in common.
 #[derive(Drop)]
 pub struct Condition {
-    pub facts: Items<Given>,
+    pub facts: Chain<Given>,
     pub goals: Items<Given>,
     pub rule: Rule,
     pub site: Site,

@@ -1,0 +1,8 @@
+//! The conditions that have been asked so far: the first of them, and how many there are.
+#![tactic(auto)]
+
+mod tally;
+#[cfg(test)]
+mod tests;
+
+pub use tally::Tally;
