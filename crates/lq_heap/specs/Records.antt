@@ -9,7 +9,7 @@ use Rattle.lq_templates.specs.declared.condition.Given.TheVariants.{Of}
 use Rattle.lq_templates.specs.declared.condition.Rule.TheVariants.{Fold}
 use Rattle.lq_templates.specs.declared.condition.Site.{Site}
 use Rattle.lq_templates.specs.declared.condition.Condition.{Condition}
-use Rattle.lq_templates.specs.Instances.{same_term}
+use Rattle.lq_templates.specs.Rows.{same_term}
 use Rattle.lq_templates.specs.Conditions.{asks}
 use Rattle.lq_symbolic.specs.declared.value.SymPtr.{SymPtr}
 use Rattle.lq_symbolic.specs.declared.value.SymValue.{SymValue}

@@ -55,7 +55,7 @@ side_has : {negated : Bool} {text : List ℕ} {xs : List Addend} → IsSide nega
 side_has (plain h k) = (term_has h, more_have k)
 side_has (opposite h k) = (term_has h, more_have k)
 
-comparison_has : {text : List ℕ} {c : Comparison} → IsComparison text c → AllByRecursion HasAtom c.addends
+pub comparison_has : {text : List ℕ} {c : Comparison} → IsComparison text c → AllByRecursion HasAtom c.addends
 comparison_has p = subst (AllByRecursion HasAtom) (sym p.joined) (all_joined HasAtom p.first p.later (side_has p.left_side) (side_has p.right_side))
 
 -- ---- rows that can be read

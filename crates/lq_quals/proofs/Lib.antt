@@ -12,3 +12,4 @@ pub mod SpellingLemmas
 pub mod BlanksLemmas
 pub mod AgainLemmas
 pub mod BackLemmas
+pub mod AtomLemmas

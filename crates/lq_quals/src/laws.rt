@@ -1,7 +1,9 @@
 //! What follows from the definitions alone: each law is the contract of a function that does nothing.
 
-ghost use Rattle.std.specs.Prelude.{◌≡◌, ℕ, List};
+ghost use Rattle.std.specs.Prelude.{◌≡◌, ℕ, List, Some, slice_get};
 ghost use Rattle.std.specs.List.{AllByRecursion};
+ghost use Rattle.lq_text.specs.Atom.{IsAtom};
+ghost use Rattle.lq_text.specs.declared.atom.Atom.{Atom};
 ghost use Rattle.lq_quals.specs.Qualifier.{IsGoodRow, rows_of};
 ghost use Rattle.lq_quals.specs.Quals.{IsQualsText, IsFirstBadLine};
 ghost use Rattle.lq_quals.specs.declared.quals.Quals.{Quals};
@@ -22,4 +24,11 @@ pub fn one_bad_line()
 pub fn rows_are_bounded()
     ensures { (text : List ℕ) (quals : Quals) → IsQualsText text quals
         → AllByRecursion (λ each. AllByRecursion (IsGoodRow quals.atoms) (rows_of each)) quals.list }
+{}
+
+/// The names in the atoms of a text are names, and no atom has two numbers.
+pub fn atoms_differ()
+    ensures named { (text : List ℕ) (quals : Quals) (k : ℕ) (atom : Atom) → IsQualsText text quals → slice_get quals.atoms k ≡ Some atom → IsAtom atom }
+    ensures once { (text : List ℕ) (quals : Quals) (i j : ℕ) (atom : Atom) → IsQualsText text quals
+        → slice_get quals.atoms i ≡ Some atom → slice_get quals.atoms j ≡ Some atom → i ≡ j }
 {}

@@ -14,7 +14,7 @@ mod term;
 mod tests;
 mod writing;
 
-pub use laws::{one_bad_line, one_reading, rows_are_bounded};
+pub use laws::{atoms_differ, one_bad_line, one_reading, rows_are_bounded};
 pub use qualifier::Qualifier;
 pub use quals::{QualFault, Quals, read_quals};
 pub use writing::write_quals;

@@ -1,11 +1,5 @@
 pub mod worked
 pub mod AccessSets
-pub mod Gathering
-pub mod Choosing
-pub mod Searching
-pub mod Exchanging
-pub mod Cutting
-pub mod InstanceSearch
 pub mod LiveLists
 pub mod Inside
 pub mod TouchLemmas
@@ -13,9 +7,3 @@ pub mod Rounds
 pub mod FirstLemmas
 pub mod ReadingLemmas
 pub mod ListingLemmas
-pub mod RowBounds
-pub mod MarkedSearch
-pub mod Pigeonholes
-pub mod Cutoffs
-pub mod Gathered
-pub mod FoundLemmas

@@ -9,8 +9,5 @@ pub mod Templates
 pub mod Firsts
 pub mod Reading
 pub mod Listing
-pub mod Instances
+pub mod Rows
 pub mod Conditions
-pub mod Search
-pub mod Cuts
-pub mod Faults

@@ -1,23 +1,15 @@
-//! The places at which the checker remembers rows, and which rows it may remember there. Later crates make of
+//! The places at which the checker remembers rows, and the numbers that the rows may speak of. Later crates make of
 //! them the conditions of a program.
 #![tactic(auto)]
 
 mod access;
 mod condition;
 mod firsts;
-mod instances_fault;
-mod instances_list;
-mod instances_row;
-mod instances_search;
-mod instances_table;
-#[cfg(test)]
-mod instances_tests;
 mod laws;
 mod listing;
 mod lives;
 mod made;
 mod makers;
-mod matching;
 mod names;
 mod reading;
 mod template;
@@ -25,8 +17,6 @@ mod touches;
 
 pub use access::Access;
 pub use condition::{Assign, Condition, Conditions, Given, Rule, Site};
-pub use instances_fault::TemplateFault;
-pub use instances_list::instances;
-pub use laws::{search_finds_instances, templates_are_settled};
+pub use laws::templates_are_settled;
 pub use listing::templates;
 pub use template::{NamePart, Named, ScopeRef, Template, TemplateKind};

@@ -19,7 +19,7 @@ use Rattle.lq_linear.specs.declared.item.Item.{Item}
 use Rattle.lq_linear.specs.declared.item.Item.TheVariants.{Holds, Division, Remainder}
 use Rattle.lq_linear.specs.declared.combination.TheConstants.{WIDTH}
 use Rattle.lq_linear.specs.Derivation.{floor, Part, Combination, combined, IsCombination, NumbersAscend, Proves, IsMultiplier, FollowsDirectly, IsRowFact, IsFact}
-use Rattle.lq_templates.specs.Instances.{same_term}
+use Rattle.lq_templates.specs.Rows.{same_term}
 use Rattle.lq_templates.specs.declared.condition.Assign.{Assign}
 use Rattle.lq_templates.specs.declared.condition.Condition.{Condition}
 use Rattle.lq_templates.specs.Conditions.{IsDerived, IsMet, facts_of, goals_of}

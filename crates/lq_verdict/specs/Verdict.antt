@@ -12,7 +12,7 @@ use Rattle.lq_templates.specs.declared.condition.Assign.{Assign}
 use Rattle.lq_templates.specs.declared.template.Template.{Template}
 use Rattle.lq_templates.specs.Accesses.{Access, AreAccesses}
 use Rattle.lq_templates.specs.Classes.{class_in}
-use Rattle.lq_templates.specs.Instances.{instances}
+use Rattle.lq_instances.specs.Instances.{instances}
 use Rattle.lq_templates.specs.Conditions.{IsWithin, IsGreatest, IsFirstFailure}
 use Rattle.lq_conditions.specs.Conditions.{conditions, IsGoodFor}
 

@@ -1,23 +1,18 @@
 -- A return in both lists of an If, and code behind it.
-use Rattle.std.proofs.Common.{◌≡◌, refl}
-use Rattle.std.specs.Prelude.{pos, negsuc, List, [], ◌∷◌, Some, map}
+use Rattle.std.proofs.Common.{refl}
+use Rattle.std.specs.Prelude.{pos, List, [], ◌∷◌, Some}
 use Rattle.lq_tree.specs.declared.expr.BinOp.TheVariants.{Add, And, Ge, Gt, Le, Lt, Mul, Rem, Sub}
 use Rattle.lq_tree.specs.declared.plain.PExpr.{Null, Slot}
 use Rattle.lq_tree.specs.declared.plain.PKind.{Call, Calloc, Foreach, Load, Return, Set, Store}
 use Rattle.lq_tree.specs.declared.plain.PFunc.{PFunc}
 use Rattle.lq_tree.specs.declared.plain.PProgram.{PProgram}
-use Rattle.lq_text.specs.declared.atom.Subject.TheVariants.{Returned}
-use Rattle.lq_text.specs.declared.atom.Atom.TheVariants.{Element, Length, Offset, Value}
-use Rattle.lq_quals.specs.declared.qualifier.Qualifier.TheVariants.{AtMost, Equal}
-use Rattle.lq_quals.specs.declared.quals.Quals.{Quals}
 use Rattle.lq_meaning.proofs.worked.SourceWords.{int, param, struct, struct_at}
 use Rattle.lq_meaning.proofs.worked.PlainWords.{bin, branch, func, if_else, named, num, program, stmt, unnamed}
 use Rattle.lq_templates.specs.declared.template.Template.{Template}
 use Rattle.lq_templates.specs.Classes.{ClassOf}
 use Rattle.lq_templates.specs.Templates.{AreTemplates}
-use Rattle.lq_templates.specs.Instances.{instances}
 use Rattle.lq_templates.proofs.AccessSets.{templates_by}
-use Rattle.lq_templates.proofs.worked.Words.{after, any, before, classes, field, local, number, pointer, qualifiers, reads, records, row, writes}
+use Rattle.lq_templates.proofs.worked.Words.{after, before, classes, number, pointer, reads, records, writes}
 
 abbrev ends_f1 : PFunc
 ends_f1 = func 2 1 (Some (int 0)) "f1" 4 (named "n2" (int 0) ∷ named "s3" (struct "S" 1) ∷ named "n4" (int 0) ∷ named "n5" (int 0) ∷ named "a6" (int 1) ∷ []) (stmt 3 3 (Calloc 4 (num 4) (int 0)) ∷ stmt 4 3 (Return (Some (Slot 2))) ∷ [])
@@ -31,17 +26,9 @@ ends = program (struct_at 1 1 "S" (param (int 0) "n" ∷ param (int 1) "data" �
 abbrev ends_classes : ClassOf
 ends_classes = classes ((0, 1, 1) ∷ (0, 4, 2) ∷ (1, 0, 3) ∷ (1, 2, 4) ∷ [])
 
-abbrev ends_templates : List Template
+abbrev pub ends_templates : List Template
 ends_templates = (records 1 (number ".n" ∷ pointer ".data" ∷ number ".m" ∷ pointer ".next" ∷ []) ∷ records 2 (number ".word" ∷ []) ∷ records 3 (number ".word" ∷ []) ∷ records 4 (number ".n" ∷ pointer ".data" ∷ number ".m" ∷ pointer ".next" ∷ []) ∷ before 0 (number "n2" ∷ pointer "s3" ∷ number "n4" ∷ number "n5" ∷ []) ∷ after 0 (number "n2" ∷ pointer "s3" ∷ number "n4" ∷ number "n5" ∷ number "result" ∷ []) ∷ reads 1 6 1 3 0 (pointer "in" ∷ number "n" ∷ []) ∷ writes 1 6 1 3 0 (pointer "in" ∷ number "n" ∷ []) ∷ [])
 
 -- all templates, in their order
 ends-all : AreTemplates ends ends_classes ends_templates
 ends-all = templates_by ends ends_classes ends_templates refl
-
--- the atoms of the qualifiers, and what the lines say
-abbrev ends_qualifiers : Quals
-ends_qualifiers = qualifiers (Element ∷ Offset (any "p") ∷ Value (any "x") ∷ Offset (field "next") ∷ Length (field "next") ∷ Length (any "p") ∷ Value Returned ∷ Value (any "y") ∷ Length Returned ∷ Value (local "n") ∷ Value (local "n2") ∷ Value (local "c11") ∷ []) (AtMost (row ((0, pos 1) ∷ (1, negsuc 0) ∷ (2, negsuc 0) ∷ []) (negsuc 0)) ∷ AtMost (row ((0, pos 1) ∷ (2, negsuc 0) ∷ []) (pos 0)) ∷ AtMost (row ((3, pos 1) ∷ []) (pos 0)) ∷ AtMost (row ((4, negsuc 0) ∷ []) (negsuc 2)) ∷ Equal (row ((0, pos 1) ∷ []) (pos 0)) (row ((0, negsuc 0) ∷ []) (pos 0)) ∷ AtMost (row ((2, pos 1) ∷ (5, negsuc 0) ∷ []) (pos 0)) ∷ AtMost (row ((2, pos 1) ∷ (6, negsuc 0) ∷ []) (pos 0)) ∷ AtMost (row ((2, pos 1) ∷ (7, negsuc 0) ∷ []) (pos 1)) ∷ AtMost (row ((2, negsuc 0) ∷ (6, pos 1) ∷ []) (negsuc 0)) ∷ AtMost (row ((0, pos 1) ∷ (2, negsuc 0) ∷ []) (pos 2)) ∷ Equal (row ((2, negsuc 0) ∷ (8, pos 1) ∷ []) (pos 0)) (row ((2, pos 1) ∷ (8, negsuc 0) ∷ []) (pos 0)) ∷ AtMost (row ((0, pos 1) ∷ (2, negsuc 1) ∷ []) (pos 1)) ∷ AtMost (row ((0, pos 1) ∷ (9, negsuc 0) ∷ []) (negsuc 0)) ∷ AtMost (row ((10, pos 1) ∷ (11, negsuc 0) ∷ []) (pos 0)) ∷ [])
-
--- the instances of each
-ends-instances : map (λ t. instances t ends_qualifiers) ends_templates ≡ ((row ((4, pos 1) ∷ []) (pos 0) ∷ row ((5, negsuc 0) ∷ []) (negsuc 2) ∷ []) ∷ [] ∷ [] ∷ (row ((4, pos 1) ∷ []) (pos 0) ∷ row ((5, negsuc 0) ∷ []) (negsuc 2) ∷ []) ∷ (row ((0, pos 1) ∷ (2, negsuc 0) ∷ []) (pos 0) ∷ row ((2, negsuc 0) ∷ (3, pos 1) ∷ []) (pos 0) ∷ row ((2, negsuc 0) ∷ (4, pos 1) ∷ []) (pos 0) ∷ row ((0, pos 1) ∷ (3, negsuc 0) ∷ []) (pos 1) ∷ row ((0, pos 1) ∷ (4, negsuc 0) ∷ []) (pos 1) ∷ row ((0, negsuc 0) ∷ (3, pos 1) ∷ []) (pos 1) ∷ row ((3, pos 1) ∷ (4, negsuc 0) ∷ []) (pos 1) ∷ row ((0, negsuc 0) ∷ (4, pos 1) ∷ []) (pos 1) ∷ row ((3, negsuc 0) ∷ (4, pos 1) ∷ []) (pos 1) ∷ []) ∷ (row ((0, pos 1) ∷ (5, negsuc 0) ∷ []) (pos 0) ∷ row ((3, pos 1) ∷ (5, negsuc 0) ∷ []) (pos 0) ∷ row ((4, pos 1) ∷ (5, negsuc 0) ∷ []) (pos 0) ∷ row ((0, negsuc 0) ∷ (5, pos 1) ∷ []) (negsuc 0) ∷ row ((3, negsuc 0) ∷ (5, pos 1) ∷ []) (negsuc 0) ∷ row ((4, negsuc 0) ∷ (5, pos 1) ∷ []) (negsuc 0) ∷ []) ∷ (row ((0, pos 1) ∷ (1, negsuc 0) ∷ (3, negsuc 0) ∷ []) (negsuc 0) ∷ row ((0, pos 1) ∷ (3, negsuc 0) ∷ []) (pos 0) ∷ row ((0, pos 1) ∷ []) (pos 0) ∷ row ((0, negsuc 0) ∷ []) (pos 0) ∷ row ((0, pos 1) ∷ (3, negsuc 0) ∷ []) (pos 2) ∷ row ((0, pos 1) ∷ (3, negsuc 1) ∷ []) (pos 1) ∷ row ((0, pos 1) ∷ (3, negsuc 0) ∷ []) (negsuc 0) ∷ []) ∷ (row ((0, pos 1) ∷ (1, negsuc 0) ∷ (3, negsuc 0) ∷ []) (negsuc 0) ∷ row ((0, pos 1) ∷ (3, negsuc 0) ∷ []) (pos 0) ∷ row ((0, pos 1) ∷ []) (pos 0) ∷ row ((0, negsuc 0) ∷ []) (pos 0) ∷ row ((0, pos 1) ∷ (3, negsuc 0) ∷ []) (pos 2) ∷ row ((0, pos 1) ∷ (3, negsuc 1) ∷ []) (pos 1) ∷ row ((0, pos 1) ∷ (3, negsuc 0) ∷ []) (negsuc 0) ∷ []) ∷ [])
-ends-instances = refl

@@ -1,22 +1,18 @@
 -- Nested loops, and branches that do nothing: a local of an earlier `for` is still in scope at the next statement.
-use Rattle.std.proofs.Common.{◌≡◌, refl}
-use Rattle.std.specs.Prelude.{pos, negsuc, List, [], ◌∷◌, Some, map}
+use Rattle.std.proofs.Common.{refl}
+use Rattle.std.specs.Prelude.{pos, List, [], ◌∷◌, Some}
 use Rattle.lq_tree.specs.declared.expr.BinOp.TheVariants.{Add, Lt}
 use Rattle.lq_tree.specs.declared.plain.PExpr.{Slot}
 use Rattle.lq_tree.specs.declared.plain.PKind.{Foreach, Return, Set}
 use Rattle.lq_tree.specs.declared.plain.PFunc.{PFunc}
 use Rattle.lq_tree.specs.declared.plain.PProgram.{PProgram}
-use Rattle.lq_text.specs.declared.atom.Atom.TheVariants.{Element, Length, Offset, Value}
-use Rattle.lq_quals.specs.declared.qualifier.Qualifier.TheVariants.{AtMost, Equal}
-use Rattle.lq_quals.specs.declared.quals.Quals.{Quals}
 use Rattle.lq_meaning.proofs.worked.SourceWords.{int, param, struct, struct_at}
 use Rattle.lq_meaning.proofs.worked.PlainWords.{bin, branch, cobegin, func, named, num, program, stmt, while}
 use Rattle.lq_templates.specs.declared.template.Template.{Template}
 use Rattle.lq_templates.specs.Classes.{ClassOf}
 use Rattle.lq_templates.specs.Templates.{AreTemplates}
-use Rattle.lq_templates.specs.Instances.{instances}
 use Rattle.lq_templates.proofs.AccessSets.{templates_by}
-use Rattle.lq_templates.proofs.worked.Words.{any, changed_number, classes, field, local, looped, number, pointer, qualifiers, records, row}
+use Rattle.lq_templates.proofs.worked.Words.{changed_number, classes, looped, number, pointer, records}
 
 abbrev lingering_main : PFunc
 lingering_main = func 2 1 (Some (int 0)) "main" 2 (named "in" (int 1) ∷ named "n" (int 0) ∷ named "i1" (int 0) ∷ named "i2" (int 0) ∷ named "i3" (int 0) ∷ []) (stmt 3 8 (Set 2 (num 0)) ∷ stmt 3 3 (while [] (bin Lt (Slot 2) (num 4)) (stmt 4 10 (Set 3 (num 0)) ∷ stmt 4 5 (while [] (bin Lt (Slot 3) (num 4)) (stmt 4 30 (Set 3 (bin Add (Slot 3) (num 1))) ∷ [])) ∷ stmt 3 28 (Set 2 (bin Add (Slot 2) (num 1))) ∷ [])) ∷ stmt 7 3 (Foreach 4 (num 0) (num 2) (pos 3) (branch 7 25 (stmt 8 5 (cobegin (branch 9 7 [] ∷ branch 11 7 [] ∷ [])) ∷ []))) ∷ stmt 15 3 (cobegin (branch 16 5 [] ∷ branch 18 5 [] ∷ [])) ∷ stmt 21 3 (Return (Some (num 0))) ∷ [])
@@ -27,17 +23,9 @@ lingering = program (struct_at 1 1 "S" (param (int 0) "n" ∷ param (int 1) "dat
 abbrev lingering_classes : ClassOf
 lingering_classes = classes ((0, 0, 1) ∷ [])
 
-abbrev lingering_templates : List Template
+abbrev pub lingering_templates : List Template
 lingering_templates = (records 1 (number ".word" ∷ []) ∷ looped (pointer "in" ∷ number "n" ∷ changed_number "i1" ∷ []) ∷ looped (pointer "in" ∷ number "n" ∷ number "i1" ∷ changed_number "i2" ∷ []) ∷ [])
 
 -- all templates, in their order
 lingering-all : AreTemplates lingering lingering_classes lingering_templates
 lingering-all = templates_by lingering lingering_classes lingering_templates refl
-
--- the atoms of the qualifiers, and what the lines say
-abbrev lingering_qualifiers : Quals
-lingering_qualifiers = qualifiers (Value (any "x") ∷ Length (any "p") ∷ Value (field "m") ∷ Offset (any "p") ∷ Element ∷ Value (local "i1") ∷ []) (AtMost (row ((0, pos 1) ∷ (1, negsuc 0) ∷ []) (pos 0)) ∷ Equal (row ((2, pos 1) ∷ []) (pos 0)) (row ((2, negsuc 0) ∷ []) (pos 0)) ∷ AtMost (row ((0, pos 1) ∷ (1, negsuc 0) ∷ (3, pos 1) ∷ []) (negsuc 0)) ∷ AtMost (row ((4, pos 1) ∷ (5, negsuc 0) ∷ []) (negsuc 0)) ∷ [])
-
--- the instances of each
-lingering-instances : map (λ t. instances t lingering_qualifiers) lingering_templates ≡ ([] ∷ (row ((1, negsuc 0) ∷ (3, pos 1) ∷ []) (pos 0) ∷ row ((0, pos 1) ∷ (1, negsuc 0) ∷ (3, pos 1) ∷ []) (negsuc 0) ∷ []) ∷ (row ((1, negsuc 0) ∷ (4, pos 1) ∷ []) (pos 0) ∷ row ((0, pos 1) ∷ (1, negsuc 0) ∷ (4, pos 1) ∷ []) (negsuc 0) ∷ []) ∷ [])
-lingering-instances = refl

@@ -1,23 +1,18 @@
 -- Functions that return pointers: an offset and a length of a result.
-use Rattle.std.proofs.Common.{◌≡◌, refl}
-use Rattle.std.specs.Prelude.{pos, negsuc, List, [], ◌∷◌, Some, map}
+use Rattle.std.proofs.Common.{refl}
+use Rattle.std.specs.Prelude.{pos, List, [], ◌∷◌, Some}
 use Rattle.lq_tree.specs.declared.expr.BinOp.TheVariants.{Lt, Sub}
 use Rattle.lq_tree.specs.declared.plain.PExpr.{Null, Slot}
 use Rattle.lq_tree.specs.declared.plain.PKind.{Calloc, Foreach, Return, Set, Store}
 use Rattle.lq_tree.specs.declared.plain.PFunc.{PFunc}
 use Rattle.lq_tree.specs.declared.plain.PProgram.{PProgram}
-use Rattle.lq_text.specs.declared.atom.Subject.TheVariants.{Returned}
-use Rattle.lq_text.specs.declared.atom.Atom.TheVariants.{Element, Length, Offset, Value}
-use Rattle.lq_quals.specs.declared.qualifier.Qualifier.TheVariants.{AtMost, Equal}
-use Rattle.lq_quals.specs.declared.quals.Quals.{Quals}
 use Rattle.lq_meaning.proofs.worked.SourceWords.{int, param, struct, struct_at}
 use Rattle.lq_meaning.proofs.worked.PlainWords.{bin, branch, cobegin, func, if_else, named, num, program, stmt}
 use Rattle.lq_templates.specs.declared.template.Template.{Template}
 use Rattle.lq_templates.specs.Classes.{ClassOf}
 use Rattle.lq_templates.specs.Templates.{AreTemplates}
-use Rattle.lq_templates.specs.Instances.{instances}
 use Rattle.lq_templates.proofs.AccessSets.{templates_by}
-use Rattle.lq_templates.proofs.worked.Words.{after, any, before, classes, field, local, number, pointer, qualifiers, records, row, writes}
+use Rattle.lq_templates.proofs.worked.Words.{after, before, classes, number, pointer, records, writes}
 
 abbrev pointers_f1 : PFunc
 pointers_f1 = func 2 1 (Some (int 1)) "f1" 4 (named "n2" (int 0) ∷ named "s3" (struct "S" 1) ∷ named "n4" (int 0) ∷ named "n5" (int 0) ∷ named "a6" (int 1) ∷ []) (stmt 3 3 (Calloc 4 (Slot 0) (int 0)) ∷ stmt 4 3 (Return (Some Null)) ∷ [])
@@ -34,17 +29,9 @@ pointers = program (struct_at 1 1 "S" (param (int 0) "n" ∷ param (int 1) "data
 abbrev pointers_classes : ClassOf
 pointers_classes = classes ((0, 1, 1) ∷ (0, 4, 2) ∷ (0, 5, 3) ∷ (1, 2, 4) ∷ (2, 0, 5) ∷ [])
 
-abbrev pointers_templates : List Template
+abbrev pub pointers_templates : List Template
 pointers_templates = (records 1 (number ".n" ∷ pointer ".data" ∷ number ".m" ∷ pointer ".next" ∷ []) ∷ records 2 (number ".word" ∷ []) ∷ records 3 (number ".word" ∷ []) ∷ records 4 (number ".word" ∷ []) ∷ records 5 (number ".word" ∷ []) ∷ before 0 (number "n2" ∷ pointer "s3" ∷ number "n4" ∷ number "n5" ∷ []) ∷ after 0 (number "n2" ∷ pointer "s3" ∷ number "n4" ∷ number "n5" ∷ pointer "result" ∷ []) ∷ before 1 (number "n8" ∷ []) ∷ after 1 (number "n8" ∷ pointer "result" ∷ []) ∷ writes 3 11 1 5 0 (pointer "in" ∷ number "n" ∷ []) ∷ writes 4 14 5 5 0 (pointer "in" ∷ number "n" ∷ []) ∷ [])
 
 -- all templates, in their order
 pointers-all : AreTemplates pointers pointers_classes pointers_templates
 pointers-all = templates_by pointers pointers_classes pointers_templates refl
-
--- the atoms of the qualifiers, and what the lines say
-abbrev pointers_qualifiers : Quals
-pointers_qualifiers = qualifiers (Element ∷ Value (any "x") ∷ Offset (any "p") ∷ Length (any "p") ∷ Value (field "n") ∷ Value (field "m") ∷ Value (any "y") ∷ Value (any "z") ∷ Length Returned ∷ Value Returned ∷ Value (local "n2") ∷ Value (local "n") ∷ []) (AtMost (row ((0, pos 1) ∷ (1, negsuc 0) ∷ []) (negsuc 0)) ∷ AtMost (row ((0, negsuc 0) ∷ (1, pos 1) ∷ (2, pos 1) ∷ []) (pos 0)) ∷ AtMost (row ((0, negsuc 0) ∷ (1, pos 4) ∷ []) (pos 0)) ∷ AtMost (row ((1, pos 1) ∷ (3, negsuc 0) ∷ []) (negsuc 0)) ∷ AtMost (row ((1, negsuc 0) ∷ []) (negsuc 0)) ∷ AtMost (row ((4, pos 1) ∷ (5, negsuc 0) ∷ []) (pos 0)) ∷ AtMost (row ((1, pos 1) ∷ (6, pos 1) ∷ (7, negsuc 0) ∷ []) (pos 0)) ∷ AtMost (row ((8, negsuc 0) ∷ []) (negsuc 0)) ∷ Equal (row ((1, negsuc 0) ∷ (8, pos 1) ∷ []) (pos 0)) (row ((1, pos 1) ∷ (8, negsuc 0) ∷ []) (pos 0)) ∷ Equal (row ((1, pos 1) ∷ (6, negsuc 0) ∷ []) (pos 0)) (row ((1, negsuc 0) ∷ (6, pos 1) ∷ []) (pos 0)) ∷ AtMost (row ((3, negsuc 0) ∷ []) (negsuc 0)) ∷ AtMost (row ((9, negsuc 0) ∷ []) (pos 0)) ∷ Equal (row ((0, pos 1) ∷ (1, negsuc 0) ∷ (2, negsuc 0) ∷ []) (pos 0)) (row ((0, negsuc 0) ∷ (1, pos 1) ∷ (2, pos 1) ∷ []) (pos 0)) ∷ AtMost (row ((0, pos 1) ∷ (1, negsuc 0) ∷ []) (pos 2)) ∷ AtMost (row ((10, negsuc 0) ∷ []) (pos 0)) ∷ AtMost (row ((0, pos 1) ∷ (11, negsuc 0) ∷ []) (negsuc 0)) ∷ [])
-
--- the instances of each
-pointers-instances : map (λ t. instances t pointers_qualifiers) pointers_templates ≡ ((row ((0, pos 1) ∷ (3, negsuc 0) ∷ []) (pos 0) ∷ []) ∷ [] ∷ [] ∷ [] ∷ [] ∷ (row ((0, pos 1) ∷ (2, negsuc 0) ∷ []) (negsuc 0) ∷ row ((2, negsuc 0) ∷ (3, pos 1) ∷ []) (negsuc 0) ∷ row ((2, negsuc 0) ∷ (4, pos 1) ∷ []) (negsuc 0) ∷ row ((0, negsuc 0) ∷ []) (negsuc 0) ∷ row ((3, negsuc 0) ∷ []) (negsuc 0) ∷ row ((4, negsuc 0) ∷ []) (negsuc 0) ∷ row ((0, pos 1) ∷ (3, pos 1) ∷ (4, negsuc 0) ∷ []) (pos 0) ∷ row ((0, pos 1) ∷ (3, negsuc 0) ∷ (4, pos 1) ∷ []) (pos 0) ∷ row ((0, negsuc 0) ∷ (3, pos 1) ∷ (4, pos 1) ∷ []) (pos 0) ∷ row ((0, pos 1) ∷ (3, negsuc 0) ∷ []) (pos 0) ∷ row ((0, negsuc 0) ∷ (3, pos 1) ∷ []) (pos 0) ∷ row ((0, pos 1) ∷ (4, negsuc 0) ∷ []) (pos 0) ∷ row ((0, negsuc 0) ∷ (4, pos 1) ∷ []) (pos 0) ∷ row ((3, pos 1) ∷ (4, negsuc 0) ∷ []) (pos 0) ∷ row ((3, negsuc 0) ∷ (4, pos 1) ∷ []) (pos 0) ∷ row ((2, negsuc 0) ∷ []) (negsuc 0) ∷ row ((0, negsuc 0) ∷ []) (pos 0) ∷ []) ∷ (row ((6, negsuc 0) ∷ []) (negsuc 0) ∷ row ((0, negsuc 0) ∷ (6, pos 1) ∷ []) (pos 0) ∷ row ((0, pos 1) ∷ (6, negsuc 0) ∷ []) (pos 0) ∷ row ((3, negsuc 0) ∷ (6, pos 1) ∷ []) (pos 0) ∷ row ((3, pos 1) ∷ (6, negsuc 0) ∷ []) (pos 0) ∷ row ((4, negsuc 0) ∷ (6, pos 1) ∷ []) (pos 0) ∷ row ((4, pos 1) ∷ (6, negsuc 0) ∷ []) (pos 0) ∷ []) ∷ (row ((0, negsuc 0) ∷ []) (negsuc 0) ∷ []) ∷ (row ((2, negsuc 0) ∷ []) (negsuc 0) ∷ row ((0, negsuc 0) ∷ (2, pos 1) ∷ []) (pos 0) ∷ row ((0, pos 1) ∷ (2, negsuc 0) ∷ []) (pos 0) ∷ []) ∷ (row ((0, pos 1) ∷ (3, negsuc 0) ∷ []) (negsuc 0) ∷ row ((0, negsuc 0) ∷ (1, pos 1) ∷ (3, pos 1) ∷ []) (pos 0) ∷ row ((0, negsuc 0) ∷ (3, pos 4) ∷ []) (pos 0) ∷ row ((0, pos 1) ∷ (1, negsuc 0) ∷ (3, negsuc 0) ∷ []) (pos 0) ∷ row ((0, pos 1) ∷ (3, negsuc 0) ∷ []) (pos 2) ∷ []) ∷ (row ((0, pos 1) ∷ (3, negsuc 0) ∷ []) (negsuc 0) ∷ row ((0, negsuc 0) ∷ (1, pos 1) ∷ (3, pos 1) ∷ []) (pos 0) ∷ row ((0, negsuc 0) ∷ (3, pos 4) ∷ []) (pos 0) ∷ row ((0, pos 1) ∷ (1, negsuc 0) ∷ (3, negsuc 0) ∷ []) (pos 0) ∷ row ((0, pos 1) ∷ (3, negsuc 0) ∷ []) (pos 2) ∷ []) ∷ [])
-pointers-instances = refl

@@ -1,23 +1,18 @@
--- Qualifiers that speak of what a function returns.
-use Rattle.std.proofs.Common.{◌≡◌, refl}
-use Rattle.std.specs.Prelude.{pos, negsuc, List, [], ◌∷◌, None, Some, map}
+-- A function that returns a pointer and is called, and a `foreach` with a step.
+use Rattle.std.proofs.Common.{refl}
+use Rattle.std.specs.Prelude.{pos, List, [], ◌∷◌, None, Some}
 use Rattle.lq_tree.specs.declared.expr.BinOp.TheVariants.{Add, Lt, Mul}
 use Rattle.lq_tree.specs.declared.plain.PExpr.{Slot}
 use Rattle.lq_tree.specs.declared.plain.PKind.{Call, Foreach, Return, Store}
 use Rattle.lq_tree.specs.declared.plain.PFunc.{PFunc}
 use Rattle.lq_tree.specs.declared.plain.PProgram.{PProgram}
-use Rattle.lq_text.specs.declared.atom.Subject.TheVariants.{Returned}
-use Rattle.lq_text.specs.declared.atom.Atom.TheVariants.{Element, Length, Offset, Value}
-use Rattle.lq_quals.specs.declared.qualifier.Qualifier.TheVariants.{AtMost, Equal}
-use Rattle.lq_quals.specs.declared.quals.Quals.{Quals}
 use Rattle.lq_meaning.proofs.worked.SourceWords.{int, param, struct, struct_at}
 use Rattle.lq_meaning.proofs.worked.PlainWords.{bin, branch, func, if_else, named, num, program, stmt}
 use Rattle.lq_templates.specs.declared.template.Template.{Template}
 use Rattle.lq_templates.specs.Classes.{ClassOf}
 use Rattle.lq_templates.specs.Templates.{AreTemplates}
-use Rattle.lq_templates.specs.Instances.{instances}
 use Rattle.lq_templates.proofs.AccessSets.{templates_by}
-use Rattle.lq_templates.proofs.worked.Words.{after, any, before, classes, field, number, pointer, qualifiers, records, row, writes}
+use Rattle.lq_templates.proofs.worked.Words.{after, before, classes, number, pointer, records, writes}
 
 abbrev results_f1 : PFunc
 results_f1 = func 2 1 (Some (int 1)) "f1" 2 (named "n2" (int 0) ∷ named "p3" (int 1) ∷ []) (stmt 3 3 (Store 1 (num 2) 0 (num 2)) ∷ stmt 4 3 (Return (Some (Slot 1))) ∷ [])
@@ -31,17 +26,9 @@ results = program (struct_at 1 1 "S" (param (int 0) "n" ∷ param (int 1) "data"
 abbrev results_classes : ClassOf
 results_classes = classes ((0, 1, 1) ∷ (0, 2, 1) ∷ (1, 0, 1) ∷ [])
 
-abbrev results_templates : List Template
+abbrev pub results_templates : List Template
 results_templates = (records 1 (number ".word" ∷ []) ∷ before 0 (number "n2" ∷ pointer "p3" ∷ []) ∷ after 0 (number "n2" ∷ pointer "p3" ∷ pointer "result" ∷ []) ∷ writes 0 2 1 1 0 (number "n2" ∷ pointer "p3" ∷ []) ∷ writes 1 6 1 1 0 (pointer "in" ∷ number "n" ∷ []) ∷ writes 2 10 25 1 0 (pointer "in" ∷ number "n" ∷ number "i4" ∷ []) ∷ [])
 
 -- all templates, in their order
 results-all : AreTemplates results results_classes results_templates
 results-all = templates_by results results_classes results_templates refl
-
--- the atoms of the qualifiers, and what the lines say
-abbrev results_qualifiers : Quals
-results_qualifiers = qualifiers (Length Returned ∷ Value (any "x") ∷ Value (any "y") ∷ Element ∷ Value (field "n") ∷ Length (any "p") ∷ Offset (any "p") ∷ Value (field "word") ∷ []) (AtMost (row ((0, negsuc 0) ∷ []) (negsuc 0)) ∷ AtMost (row ((1, pos 1) ∷ (2, negsuc 0) ∷ []) (pos 0)) ∷ Equal (row ((1, negsuc 0) ∷ (3, pos 1) ∷ []) (pos 0)) (row ((1, pos 1) ∷ (3, negsuc 0) ∷ []) (pos 0)) ∷ AtMost (row ((4, negsuc 0) ∷ []) (pos 0)) ∷ AtMost (row ((1, negsuc 0) ∷ (5, pos 1) ∷ []) (pos 0)) ∷ AtMost (row ((1, pos 1) ∷ (5, negsuc 0) ∷ (6, pos 1) ∷ []) (negsuc 0)) ∷ Equal (row ((3, pos 1) ∷ []) (pos 1)) (row ((3, negsuc 0) ∷ []) (negsuc 0)) ∷ Equal (row ((7, pos 1) ∷ []) (pos 0)) (row ((7, negsuc 0) ∷ []) (pos 0)) ∷ [])
-
--- the instances of each
-results-instances : map (λ t. instances t results_qualifiers) results_templates ≡ ((row ((0, pos 1) ∷ []) (pos 0) ∷ row ((0, negsuc 0) ∷ []) (pos 0) ∷ []) ∷ (row ((0, negsuc 0) ∷ (2, pos 1) ∷ []) (pos 0) ∷ row ((0, pos 1) ∷ (1, pos 1) ∷ (2, negsuc 0) ∷ []) (negsuc 0) ∷ []) ∷ (row ((4, negsuc 0) ∷ []) (negsuc 0) ∷ []) ∷ (row ((0, pos 1) ∷ (1, negsuc 0) ∷ []) (pos 0) ∷ row ((0, negsuc 0) ∷ (1, pos 1) ∷ []) (pos 0) ∷ row ((0, pos 1) ∷ []) (pos 1) ∷ row ((0, negsuc 0) ∷ []) (negsuc 0) ∷ []) ∷ (row ((0, pos 1) ∷ (3, negsuc 0) ∷ []) (pos 0) ∷ row ((0, negsuc 0) ∷ (3, pos 1) ∷ []) (pos 0) ∷ row ((0, pos 1) ∷ []) (pos 1) ∷ row ((0, negsuc 0) ∷ []) (negsuc 0) ∷ []) ∷ (row ((0, pos 1) ∷ (3, negsuc 0) ∷ []) (pos 0) ∷ row ((0, negsuc 0) ∷ (3, pos 1) ∷ []) (pos 0) ∷ row ((0, pos 1) ∷ (4, negsuc 0) ∷ []) (pos 0) ∷ row ((0, negsuc 0) ∷ (4, pos 1) ∷ []) (pos 0) ∷ row ((0, pos 1) ∷ []) (pos 1) ∷ row ((0, negsuc 0) ∷ []) (negsuc 0) ∷ []) ∷ [])
-results-instances = refl

@@ -1,23 +1,18 @@
 -- A function that returns a pointer, and a loop whose body does not live.
-use Rattle.std.proofs.Common.{◌≡◌, refl}
-use Rattle.std.specs.Prelude.{pos, negsuc, List, [], ◌∷◌, Some, map}
+use Rattle.std.proofs.Common.{refl}
+use Rattle.std.specs.Prelude.{List, [], ◌∷◌, Some}
 use Rattle.lq_tree.specs.declared.expr.BinOp.TheVariants.{Eq, Lt, Sub}
 use Rattle.lq_tree.specs.declared.plain.PExpr.{Null, Slot}
 use Rattle.lq_tree.specs.declared.plain.PKind.{Calloc, Return, Store}
 use Rattle.lq_tree.specs.declared.plain.PFunc.{PFunc}
 use Rattle.lq_tree.specs.declared.plain.PProgram.{PProgram}
-use Rattle.lq_text.specs.declared.atom.Subject.TheVariants.{Returned}
-use Rattle.lq_text.specs.declared.atom.Atom.TheVariants.{Element, Length, Offset, Value}
-use Rattle.lq_quals.specs.declared.qualifier.Qualifier.TheVariants.{AtMost, Equal}
-use Rattle.lq_quals.specs.declared.quals.Quals.{Quals}
 use Rattle.lq_meaning.proofs.worked.SourceWords.{int, param, struct, struct_at}
 use Rattle.lq_meaning.proofs.worked.PlainWords.{bin, branch, cobegin, func, if_else, named, num, program, stmt, while}
 use Rattle.lq_templates.specs.declared.template.Template.{Template}
 use Rattle.lq_templates.specs.Classes.{ClassOf}
 use Rattle.lq_templates.specs.Templates.{AreTemplates}
-use Rattle.lq_templates.specs.Instances.{instances}
 use Rattle.lq_templates.proofs.AccessSets.{templates_by}
-use Rattle.lq_templates.proofs.worked.Words.{after, any, before, classes, number, pointer, qualifiers, records, row, writes}
+use Rattle.lq_templates.proofs.worked.Words.{after, before, classes, number, pointer, records, writes}
 
 abbrev returned_f1 : PFunc
 returned_f1 = func 2 1 (Some (int 1)) "f1" 0 (named "a2" (int 1) ∷ named "v3" (struct "S" 1) ∷ []) (stmt 3 3 (Calloc 0 (num 3) (int 0)) ∷ stmt 4 3 (Calloc 1 (num 1) (struct "S" 0)) ∷ stmt 5 3 (Return (Some Null)) ∷ [])
@@ -31,17 +26,9 @@ returned = program (struct_at 1 1 "S" (param (int 0) "n" ∷ param (int 1) "data
 abbrev returned_classes : ClassOf
 returned_classes = classes ((0, 0, 1) ∷ (0, 1, 2) ∷ (0, 2, 3) ∷ (1, 0, 4) ∷ (1, 2, 5) ∷ [])
 
-abbrev returned_templates : List Template
+abbrev pub returned_templates : List Template
 returned_templates = (records 1 (number ".word" ∷ []) ∷ records 2 (number ".n" ∷ pointer ".data" ∷ number ".m" ∷ pointer ".next" ∷ []) ∷ records 3 (number ".word" ∷ []) ∷ records 4 (number ".word" ∷ []) ∷ records 5 (number ".n" ∷ pointer ".data" ∷ number ".m" ∷ pointer ".next" ∷ []) ∷ before 0 [] ∷ after 0 (pointer "result" ∷ []) ∷ writes 1 7 1 4 0 (pointer "in" ∷ number "n" ∷ []) ∷ writes 2 11 7 4 0 (pointer "in" ∷ number "n" ∷ []) ∷ writes 3 14 7 4 0 (pointer "in" ∷ number "n" ∷ []) ∷ [])
 
 -- all templates, in their order
 returned-all : AreTemplates returned returned_classes returned_templates
 returned-all = templates_by returned returned_classes returned_templates refl
-
--- the atoms of the qualifiers, and what the lines say
-abbrev returned_qualifiers : Quals
-returned_qualifiers = qualifiers (Element ∷ Value (any "x") ∷ Offset Returned ∷ Offset (any "p") ∷ Length (any "p") ∷ []) (Equal (row ((0, pos 1) ∷ []) (pos 1)) (row ((0, negsuc 0) ∷ []) (negsuc 0)) ∷ AtMost (row ((0, negsuc 0) ∷ (1, pos 2) ∷ []) (pos 0)) ∷ AtMost (row ((0, pos 1) ∷ []) (pos 3)) ∷ Equal (row ((2, pos 1) ∷ []) (pos 0)) (row ((2, negsuc 0) ∷ []) (pos 0)) ∷ AtMost (row ((1, pos 1) ∷ (3, pos 1) ∷ (4, negsuc 0) ∷ []) (pos 0)) ∷ [])
-
--- the instances of each
-returned-instances : map (λ t. instances t returned_qualifiers) returned_templates ≡ ([] ∷ [] ∷ [] ∷ [] ∷ [] ∷ [] ∷ (row ((0, pos 1) ∷ []) (pos 0) ∷ row ((0, negsuc 0) ∷ []) (pos 0) ∷ []) ∷ (row ((0, pos 1) ∷ []) (pos 1) ∷ row ((0, negsuc 0) ∷ []) (negsuc 0) ∷ row ((0, negsuc 0) ∷ (3, pos 2) ∷ []) (pos 0) ∷ row ((0, pos 1) ∷ []) (pos 3) ∷ []) ∷ (row ((0, pos 1) ∷ []) (pos 1) ∷ row ((0, negsuc 0) ∷ []) (negsuc 0) ∷ row ((0, negsuc 0) ∷ (3, pos 2) ∷ []) (pos 0) ∷ row ((0, pos 1) ∷ []) (pos 3) ∷ []) ∷ (row ((0, pos 1) ∷ []) (pos 1) ∷ row ((0, negsuc 0) ∷ []) (negsuc 0) ∷ row ((0, negsuc 0) ∷ (3, pos 2) ∷ []) (pos 0) ∷ row ((0, pos 1) ∷ []) (pos 3) ∷ []) ∷ [])
-returned-instances = refl

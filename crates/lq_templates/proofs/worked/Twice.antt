@@ -1,22 +1,18 @@
 -- A function that fills an array, called in two branches on one array.
-use Rattle.std.proofs.Common.{◌≡◌, refl}
-use Rattle.std.specs.Prelude.{pos, negsuc, List, [], ◌∷◌, None, Some, map}
+use Rattle.std.proofs.Common.{refl}
+use Rattle.std.specs.Prelude.{List, [], ◌∷◌, None, Some}
 use Rattle.lq_tree.specs.declared.expr.BinOp.TheVariants.{Add, Lt}
 use Rattle.lq_tree.specs.declared.plain.PExpr.{Slot}
 use Rattle.lq_tree.specs.declared.plain.PKind.{Call, Calloc, Load, Print, Return, Set, Store}
 use Rattle.lq_tree.specs.declared.plain.PFunc.{PFunc}
 use Rattle.lq_tree.specs.declared.plain.PProgram.{PProgram}
-use Rattle.lq_text.specs.declared.atom.Atom.TheVariants.{Length, Offset, Value}
-use Rattle.lq_quals.specs.declared.qualifier.Qualifier.TheVariants.{AtMost}
-use Rattle.lq_quals.specs.declared.quals.Quals.{Quals}
 use Rattle.lq_meaning.proofs.worked.SourceWords.{int}
 use Rattle.lq_meaning.proofs.worked.PlainWords.{bin, branch, cobegin, func, if_else, named, num, program, stmt, unnamed, while}
 use Rattle.lq_templates.specs.declared.template.Template.{Template}
 use Rattle.lq_templates.specs.Classes.{ClassOf}
 use Rattle.lq_templates.specs.Templates.{AreTemplates}
-use Rattle.lq_templates.specs.Instances.{instances}
 use Rattle.lq_templates.proofs.AccessSets.{templates_by}
-use Rattle.lq_templates.proofs.worked.Words.{before, changed_number, classes, local, looped, number, pointer, qualifiers, reads, records, row, writes}
+use Rattle.lq_templates.proofs.worked.Words.{before, changed_number, classes, looped, number, pointer, reads, records, writes}
 
 abbrev twice_fill : PFunc
 twice_fill = func 1 1 None "fill" 3 (named "a" (int 1) ∷ named "n" (int 0) ∷ named "v" (int 0) ∷ named "i" (int 0) ∷ []) (stmt 2 3 (Set 3 (num 0)) ∷ stmt 3 3 (while [] (bin Lt (Slot 3) (Slot 1)) (stmt 3 19 (Store 0 (Slot 3) 0 (Slot 2)) ∷ stmt 3 29 (Set 3 (bin Add (Slot 3) (num 1))) ∷ [])) ∷ [])
@@ -30,17 +26,9 @@ twice = program [] (twice_fill ∷ twice_main ∷ []) 1 []
 abbrev twice_classes : ClassOf
 twice_classes = classes ((0, 0, 1) ∷ (1, 0, 1) ∷ (1, 2, 1) ∷ [])
 
-abbrev twice_templates : List Template
+abbrev pub twice_templates : List Template
 twice_templates = (records 1 (number ".word" ∷ []) ∷ before 0 (pointer "a" ∷ number "n" ∷ number "v" ∷ []) ∷ writes 0 1 1 1 0 (pointer "a" ∷ number "n" ∷ number "v" ∷ []) ∷ looped (pointer "a" ∷ number "n" ∷ number "v" ∷ changed_number "i" ∷ []) ∷ reads 1 5 1 1 0 (pointer "in" ∷ number "n" ∷ []) ∷ writes 1 5 1 1 0 (pointer "in" ∷ number "n" ∷ []) ∷ writes 2 9 5 1 0 (pointer "in" ∷ number "n" ∷ pointer "b" ∷ []) ∷ writes 3 10 5 1 0 (pointer "in" ∷ number "n" ∷ pointer "b" ∷ []) ∷ [])
 
 -- all templates, in their order
 twice-all : AreTemplates twice twice_classes twice_templates
 twice-all = templates_by twice twice_classes twice_templates refl
-
--- the atoms of the qualifiers, and what the lines say
-abbrev twice_qualifiers : Quals
-twice_qualifiers = qualifiers (Value (local "i") ∷ Offset (local "a") ∷ Value (local "n") ∷ Length (local "a") ∷ []) (AtMost (row ((0, negsuc 0) ∷ []) (pos 0)) ∷ AtMost (row ((1, pos 1) ∷ (2, pos 1) ∷ (3, negsuc 0) ∷ []) (pos 0)) ∷ [])
-
--- the instances of each
-twice-instances : map (λ t. instances t twice_qualifiers) twice_templates ≡ ([] ∷ (row ((0, pos 1) ∷ (1, negsuc 0) ∷ (2, pos 1) ∷ []) (pos 0) ∷ []) ∷ [] ∷ (row ((4, negsuc 0) ∷ []) (pos 0) ∷ []) ∷ [] ∷ [] ∷ [] ∷ [] ∷ [])
-twice-instances = refl

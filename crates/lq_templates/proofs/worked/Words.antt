@@ -1,14 +1,7 @@
--- Short words for classes, templates, qualifiers and rows.
+-- Short words for classes and templates.
 use Prim.Native.String.{String}
-use Rattle.std.specs.Prelude.{ℕ, ◌==◌, true, false, ◌&&◌, if◌then◌else◌, List, [], ◌∷◌, ℤ, codes}
+use Rattle.std.specs.Prelude.{ℕ, ◌==◌, true, false, ◌&&◌, if◌then◌else◌, List, [], ◌∷◌, codes}
 use Rattle.std.specs.List.{flat_map}
-use Rattle.lq_text.specs.declared.atom.Subject.{Subject}
-use Rattle.lq_text.specs.declared.atom.Subject.TheVariants.{Field, Local, Placeholder}
-use Rattle.lq_text.specs.declared.atom.Atom.{Atom}
-use Rattle.lq_linear.specs.Terms.{Term}
-use Rattle.lq_linear.specs.Row.{Inequality}
-use Rattle.lq_quals.specs.declared.qualifier.Qualifier.{Qualifier}
-use Rattle.lq_quals.specs.declared.quals.Quals.{Quals}
 use Rattle.lq_meaning.proofs.worked.SourceWords.{at}
 use Rattle.lq_templates.specs.declared.template.NamePart.TheVariants as part
 use Rattle.lq_templates.specs.declared.template.Named.{Named}
@@ -62,20 +55,3 @@ reads scope line col class field parts =
 abbrev pub writes : (scope line col class field : ℕ) → List (List Named) → Template
 writes scope line col class field parts =
     template (kind.Effect (record { scope = scope; at = at line col }) class field true) (element ∷ names parts)
-
--- what atoms speak of
-abbrev pub local : String → Subject
-local name = Local (codes name)
-
-abbrev pub field : String → Subject
-field name = Field (codes name)
-
-abbrev pub any : String → Subject
-any name = Placeholder (codes name)
-
--- rows and qualifiers
-abbrev pub row : List Term → ℤ → Inequality
-row terms most = record { terms = terms; most = most }
-
-abbrev pub qualifiers : List Atom → List Qualifier → Quals
-qualifiers atoms list = record { atoms = atoms; list = list }

@@ -13,7 +13,8 @@ use Rattle.lq_templates.specs.declared.condition.Conditions.{Conditions}
 use Rattle.lq_templates.specs.Classes.{ClassOf}
 use Rattle.lq_templates.specs.Conditions.{none, kept}
 use Rattle.lq_templates.proofs.AccessSets.{rounds}
-use Rattle.lq_templates.proofs.worked.Words.{classes, local, qualifiers, row}
+use Rattle.lq_templates.proofs.worked.Words.{classes}
+use Rattle.lq_instances.proofs.worked.Words.{local, qualifiers, row}
 use Rattle.lq_conditions.specs.Conditions.{conditions}
 use Rattle.lq_verdict.specs.Verdict.{Accepts}
 use Rattle.lq_verdict.proofs.Shown.{Showing, good_by}

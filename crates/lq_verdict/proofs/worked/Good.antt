@@ -5,7 +5,8 @@ use Rattle.lq_meaning.proofs.worked.plain.Halves.{halves}
 use Rattle.lq_templates.specs.declared.condition.Assign.{Assign}
 use Rattle.lq_templates.specs.Classes.{ClassOf}
 use Rattle.lq_templates.proofs.AccessSets.{rounds}
-use Rattle.lq_templates.proofs.worked.Words.{classes, row}
+use Rattle.lq_templates.proofs.worked.Words.{classes}
+use Rattle.lq_instances.proofs.worked.Words.{row}
 use Rattle.lq_conditions.specs.Conditions.{conditions, IsGoodFor}
 use Rattle.lq_conditions.proofs.worked.FourFacts.{four_facts}
 use Rattle.lq_verdict.proofs.Shown.{Showing, good_by}

@@ -1,0 +1,14 @@
+pub mod worked
+pub mod Gathering
+pub mod Choosing
+pub mod Searching
+pub mod Exchanging
+pub mod Cutting
+pub mod InstanceSearch
+pub mod RowBounds
+pub mod MarkedSearch
+pub mod Pigeonholes
+pub mod Cutoffs
+pub mod Gathered
+pub mod FoundLemmas
+pub mod StatedRows

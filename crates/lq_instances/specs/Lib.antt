@@ -1,0 +1,5 @@
+pub mod Instances
+pub mod Search
+pub mod Cuts
+pub mod Faults
+pub mod Stated
