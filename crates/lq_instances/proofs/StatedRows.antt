@@ -35,10 +35,10 @@ use Rattle.lq_instances.proofs.RowBounds.{if_row}
 
 -- ---- lists
 
-all_at : {A : Type 0} {P : A → Type 0} (xs : List A) → AllByRecursion P xs → (x : A) → In x xs → P x
-all_at [] all x i = elim i [ ]
-all_at (x ∷ xs) all _ here = all.0
-all_at (y ∷ xs) all x (there i) = all_at xs all.1 x i
+all_at : {A : Type 0} (P : A → Type 0) (xs : List A) → AllByRecursion P xs → (x : A) → In x xs → P x
+all_at P [] all x i = elim i [ ]
+all_at P (x ∷ xs) all _ here = all.0
+all_at P (y ∷ xs) all x (there i) = all_at P xs all.1 x i
 
 filter_all : {A : Type 0} (f : A → Bool) (xs : List A) → ((x : A) → In x xs → f x ≡ true) → filter f xs ≡ xs
 filter_all f [] each = refl
@@ -81,16 +81,21 @@ filter-shared f (x ∷ xs) =
       | false ↦ omega (arith, later)
     ]
 
-filter-passes : {P : Term → Type 0} (f : Term → Bool) (xs : List Term) → AllByRecursion P xs → AllByRecursion P (filter f xs)
-filter-passes f [] all = tt
-filter-passes {P} f (x ∷ xs) all = elim (f x) as (λ b. AllByRecursion P (cond b (x ∷ filter f xs) (filter f xs))) [
-  | true ↦ (all.0, filter-passes f xs all.1)
-  | false ↦ filter-passes f xs all.1
-]
+module _ (P : Term → Type 0) where
+  filter-passes : (f : Term → Bool) (xs : List Term) → AllByRecursion P xs → AllByRecursion P (filter f xs)
+  filter-passes f [] all = tt
+  filter-passes f (x ∷ xs) all = elim (f x) as (λ b. AllByRecursion P (cond b (x ∷ filter f xs) (filter f xs))) [
+    | true ↦ (all.0, filter-passes f xs all.1)
+    | false ↦ filter-passes f xs all.1
+  ]
 
-all-append : {P : Term → Type 0} (xs ys : List Term) → AllByRecursion P xs → AllByRecursion P ys → AllByRecursion P (xs ++ ys)
-all-append [] ys all more = more
-all-append (x ∷ xs) ys all more = (all.0, all-append xs ys all.1 more)
+  all-append : (xs ys : List Term) → AllByRecursion P xs → AllByRecursion P ys → AllByRecursion P (xs ++ ys)
+  all-append [] ys all more = more
+  all-append (x ∷ xs) ys all more = (all.0, all-append xs ys all.1 more)
+
+-- the multiple of a term may be one of a form
+abbrev IsMultiple : Term → Type 0
+IsMultiple term = IsCoefficient term.1
 
 -- ---- the terms over the names
 
@@ -100,7 +105,7 @@ one_passes f [] ascends one = omega arith
 one_passes f (x ∷ xs) ascends one = elim (cases_Bool (f x)) [
   | inl is ↦
       let none : filter f xs ≡ [] = filter_none f xs (λ y i. elim (cases_Bool (f y)) [
-        | inl too ↦ (let above : x.0 < y.0 = all_at xs ascends.0 y i in let equal : x.0 ≡ y.0 = one x y here (there i) is too in absurd (omega arith))
+        | inl too ↦ (let above : x.0 < y.0 = all_at (λ (later : Term). x.0 < later.0) xs ascends.0 y i in let equal : x.0 ≡ y.0 = one x y here (there i) is too in absurd (omega arith))
         | inr isnt ↦ isnt
       ]) in
       subst (λ b. length (cond b (x ∷ filter f xs) (filter f xs)) ≤ 1) (sym is) (subst (λ (zs : List Term). suc (length zs) ≤ 1) (sym none) (omega arith))
@@ -115,7 +120,7 @@ length-moved : (number : ℕ) (xs : List Term) → length (moved number xs) ≡ 
 length-moved number [] = refl
 length-moved number (x ∷ xs) = ap suc (length-moved number xs)
 
-moved_coefficients : (number : ℕ) (xs : List Term) → AllByRecursion (λ (term : Term). IsCoefficient term.1) xs → AllByRecursion (λ (term : Term). IsCoefficient term.1) (moved number xs)
+moved_coefficients : (number : ℕ) (xs : List Term) → AllByRecursion IsMultiple xs → AllByRecursion IsMultiple (moved number xs)
 moved_coefficients number [] all = tt
 moved_coefficients number (x ∷ xs) all = (all.0, moved_coefficients number xs all.1)
 
@@ -172,15 +177,15 @@ module _ (c : Choice) (atoms : List Atom) where
       let all = filter-shared (is_of c atoms n) xs in
       omega (arith, size, later, all)
 
-  coefficients : (names : List Named) (number : ℕ) (xs : List Term) → AllByRecursion (λ (term : Term). IsCoefficient term.1) xs → AllByRecursion (λ (term : Term). IsCoefficient term.1) (terms_from xs number names)
+  coefficients : (names : List Named) (number : ℕ) (xs : List Term) → AllByRecursion IsMultiple xs → AllByRecursion IsMultiple (terms_from xs number names)
   coefficients [] number xs are = tt
   coefficients (n ∷ names) number xs are =
-      all-append (moved number (filter (is_of c atoms n) xs)) (terms_from xs (suc number) names) (moved_coefficients number (filter (is_of c atoms n) xs) (filter-passes (is_of c atoms n) xs are)) (coefficients names (suc number) xs are)
+      all-append IsMultiple (moved number (filter (is_of c atoms n) xs)) (terms_from xs (suc number) names) (moved_coefficients number (filter (is_of c atoms n) xs) (filter-passes IsMultiple (is_of c atoms n) xs are)) (coefficients names (suc number) xs are)
 
   from_number : (names : List Named) (number low : ℕ) (xs : List Term) → low ≤ number → AllByRecursion (λ (term : Term). low ≤ term.0) (terms_from xs number names)
   from_number [] number low xs le = tt
   from_number (n ∷ names) number low xs le =
-      all-append (moved number (filter (is_of c atoms n) xs)) (terms_from xs (suc number) names) (moved_from number low (filter (is_of c atoms n) xs) le) (from_number names (suc number) low xs (omega arith))
+      all-append (λ (term : Term). low ≤ term.0) (moved number (filter (is_of c atoms n) xs)) (terms_from xs (suc number) names) (moved_from number low (filter (is_of c atoms n) xs) le) (from_number names (suc number) low xs (omega arith))
 
   above : (number : ℕ) (ys : List Term) → AllByRecursion (λ (term : Term). suc number ≤ term.0) ys → AllByRecursion (λ (term : Term). number < term.0) ys
   above number [] all = tt
@@ -211,7 +216,7 @@ first_byte (byte ∷ rest) = byte
 apart_texts : {A : Type 0} (a b : Name) → a ≡ b → (first_byte a ≡ first_byte b → ⊥) → A
 apart_texts a b e apart = absurd (apart (ap first_byte e))
 
-rest_of : Name → Name
+abbrev rest_of : Name → Name
 rest_of [] = []
 rest_of (byte ∷ rest) = rest
 
@@ -341,7 +346,7 @@ module _ (atoms : List Atom) (are_atoms : (k : ℕ) (a : Atom) → slice_get ato
 
   made_row : (row : Inequality) → In row rows → is_row (named_row c atoms t.names row) ≡ true
   made_row row r =
-      let is_good = all_at rows good row r in
+      let is_good = all_at (IsGoodRow atoms) rows good row r in
       if_row (named_row c atoms t.names row) (are_terms c atoms row.terms is_good.are_terms (one_symbol row r) t.names distinct) is_good.within
 
   all_rows : chosen_rows atoms t rows c ≡ stated_rows atoms t rows c
@@ -362,4 +367,4 @@ pub all_are_rows : (quals : Quals) → ((k : ℕ) (a : Atom) → slice_get quals
     → AllByRecursion (λ each. AllByRecursion (IsGoodRow quals.atoms) (rows_of each)) quals.list → (t : Template) → AreDistinct t.names → instances t quals ≡ stated_instances t quals
 all_are_rows quals are_atoms at_once good t distinct =
     ap (once same_row) (flat_map-alike (qualifier_rows quals.atoms t) (λ (q : Qualifier). flat_map (stated_rows quals.atoms t (rows_of q)) (row_choices quals.atoms t (rows_of q))) quals.list
-    (λ q i. of_qualifier quals.atoms are_atoms at_once t distinct q (all_at quals.list good q i)))
+    (λ q i. of_qualifier quals.atoms are_atoms at_once t distinct q (all_at (λ (each : Qualifier). AllByRecursion (IsGoodRow quals.atoms) (rows_of each)) quals.list good q i)))
