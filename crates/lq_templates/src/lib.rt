@@ -29,4 +29,8 @@ pub use instances_fault::TemplateFault;
 pub use instances_list::instances;
 pub use laws::{search_finds_instances, templates_are_settled};
 pub use listing::templates;
+pub use lives::list_lives;
+pub use made::struct_among;
+pub use names::{is_marked, is_word};
+pub use reading::{changed, marks_of, target};
 pub use template::{NamePart, Named, ScopeRef, Template, TemplateKind};
