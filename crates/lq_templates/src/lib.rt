@@ -19,4 +19,8 @@ pub use access::Access;
 pub use condition::{Assign, Condition, Conditions, Given, Rule, Site};
 pub use laws::templates_are_settled;
 pub use listing::templates;
+pub use lives::list_lives;
+pub use made::struct_among;
+pub use names::{is_marked, is_word};
+pub use reading::{changed, marks_of, target};
 pub use template::{NamePart, Named, ScopeRef, Template, TemplateKind};

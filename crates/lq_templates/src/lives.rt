@@ -21,9 +21,9 @@ fn lives(kind: &PKind) -> bool
     }
 }
 
-// Whether a list lives.
+/// Whether a list lives (docs/CHECKING.md, "Templates").
 #[cycle(living)]
-pub(crate) fn list_lives(list: &[PStmt]) -> bool
+pub fn list_lives(list: &[PStmt]) -> bool
     ensures { result ≡ spec.all_live list.now }
 {
     let mut so_far = true;

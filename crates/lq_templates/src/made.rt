@@ -13,8 +13,8 @@ use lq_tree::{Base, CType, Name, Slot, StructDef, same};
 use sqlite_items::Items;
 use std::alloc::{AllocError, Global};
 
-// The struct of a name; of two the first.
-pub(crate) fn struct_among<'a>(structs: &'a [StructDef], name: &Name) -> Option<&'a StructDef>
+/// The struct of a name; of two the first.
+pub fn struct_among<'a>(structs: &'a [StructDef], name: &Name) -> Option<&'a StructDef>
     ensures { option_copied result ≡ struct_of structs.now name.now }
 {
     structs.iter().find(|item| same(&item.name, name))

@@ -8,8 +8,8 @@ use lq_tree::{Name, Param, Slot, same};
 use sqlite_items::Items;
 use std::alloc::{AllocError, Global};
 
-// Whether a name has a meaning of its own in qualifiers.
-pub(crate) fn is_word(name: &Name) -> bool
+/// Whether a name has a meaning of its own in qualifiers.
+pub fn is_word(name: &Name) -> bool
     ensures { result ≡ spec.is_word name.now }
 {
     let text = name.as_bytes();
@@ -74,8 +74,8 @@ pub(crate) fn push_fields(
     Ok(())
 }
 
-// Whether a slot is marked.
-pub(crate) fn is_marked(marks: &[bool], slot: usize) -> bool
+/// Whether a slot is marked in a table.
+pub fn is_marked(marks: &[bool], slot: usize) -> bool
     ensures { result ≡ spec.marked marks.now slot }
 {
     match marks.get(slot) {

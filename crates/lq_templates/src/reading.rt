@@ -58,8 +58,8 @@ fn mark(marks: &mut Items<bool>, slot: u32) -> Result<(), AllocError>
     Ok(())
 }
 
-// A table in which just these slots are marked.
-pub(crate) fn marks_of(alloc: Global, slots: &[u32]) -> Result<Items<bool>, AllocError>
+/// A table in which just these slots are marked.
+pub fn marks_of(alloc: Global, slots: &[u32]) -> Result<Items<bool>, AllocError>
     ensures { IfOk result (λ marks. (n : ℕ) → marked marks n ≡ scopes.is_among slots.now n) }
 {
     let mut marks = Items::new(alloc);
@@ -95,8 +95,8 @@ fn marked_among(alloc: Global, marks: &[bool], slots: &[u32]) -> Result<Items<u3
     Ok(some)
 }
 
-// The slots in scope that a statement inside assigns.
-fn changed(
+/// The slots in scope that a statement inside assigns, at any depth.
+pub fn changed(
     alloc: Global,
     classes: &ClassMap,
     func: u32,
@@ -178,8 +178,8 @@ fn pass_branch(
     reading.points.push(Point::Inner(branch.at, done, scope))
 }
 
-// The slot that a statement assigns.
-fn target(kind: &PKind) -> Option<u32>
+/// The slot that a statement itself assigns.
+pub fn target(kind: &PKind) -> Option<u32>
     ensures { option_to_list result ≡ walk.targets kind.now }
 {
     match kind {

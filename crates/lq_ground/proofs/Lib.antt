@@ -1,0 +1,9 @@
+pub mod MoveLemmas
+pub mod ScopeLemmas
+pub mod NameSets
+pub mod EffectCounts
+pub mod TableLemmas
+pub mod LocalLemmas
+pub mod Standings
+pub mod NumberLemmas
+pub mod ListLemmas

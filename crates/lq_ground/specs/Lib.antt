@@ -1,0 +1,10 @@
+pub mod Ground
+pub mod Moves
+pub mod Noted
+pub mod Fields
+pub mod Scopes
+pub mod Numbers
+pub mod Locals
+pub mod Tables
+pub mod Standing
+pub mod Spots
