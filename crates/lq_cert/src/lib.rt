@@ -4,8 +4,6 @@
 
 mod check;
 mod copy;
-#[cfg(test)]
-mod file_tests;
 mod laws;
 mod line;
 mod locate;
@@ -15,8 +13,6 @@ mod proof_file;
 mod reading;
 mod renewal;
 mod split;
-#[cfg(test)]
-mod tests;
 mod writing;
 
 pub use check::{MOST_MULTIPLIER, check_cert};

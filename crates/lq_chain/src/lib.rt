@@ -3,8 +3,6 @@
 
 mod chain;
 mod shared;
-#[cfg(test)]
-mod tests;
 mod walk;
 
 pub use chain::Chain;

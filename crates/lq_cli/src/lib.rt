@@ -9,8 +9,6 @@ mod files;
 mod laws;
 mod numbers;
 mod stop;
-#[cfg(test)]
-mod tests;
 mod text;
 mod words;
 

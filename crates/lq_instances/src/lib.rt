@@ -8,8 +8,6 @@ mod matching;
 mod row;
 mod search;
 mod table;
-#[cfg(test)]
-mod tests;
 
 pub use fault::TemplateFault;
 pub use laws::{search_finds_instances, stated_instances_are_rows};

@@ -12,6 +12,3 @@ mod token;
 pub use lexing::{LexFault, lex};
 pub use shape::check_shape;
 pub use token::{Token, TokenKind};
-
-#[cfg(test)]
-mod tests;

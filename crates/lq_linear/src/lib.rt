@@ -10,8 +10,6 @@ mod item;
 mod laws;
 mod loose;
 mod row;
-#[cfg(test)]
-mod tests;
 mod weight;
 
 pub use certificate::{Cert, Combo, Exact};

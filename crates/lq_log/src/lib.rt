@@ -5,8 +5,6 @@ mod entry;
 mod forks;
 mod laws;
 mod race;
-#[cfg(test)]
-mod tests;
 
 pub use entry::{Entry, Path};
 pub use laws::ordered_or_unordered;

@@ -14,8 +14,6 @@ mod rules;
 mod site;
 mod statement_rules;
 mod statements;
-#[cfg(test)]
-mod tests;
 mod walk;
 
 pub use check::check_names;

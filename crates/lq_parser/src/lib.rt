@@ -12,8 +12,6 @@ mod spelling;
 mod statements;
 mod stop;
 mod terminals;
-#[cfg(test)]
-mod tests;
 mod types;
 
 pub use lexeme::{Keyword, Lexeme, Sign, Symbol};

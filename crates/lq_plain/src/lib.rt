@@ -17,8 +17,6 @@ mod program;
 mod scope;
 mod site;
 mod statements;
-#[cfg(test)]
-mod tests;
 mod values;
 
 pub use laws::{

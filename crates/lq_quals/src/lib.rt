@@ -10,8 +10,6 @@ mod side;
 mod spacing;
 mod split;
 mod term;
-#[cfg(test)]
-mod tests;
 mod writing;
 
 pub use laws::{atoms_differ, one_bad_line, one_reading, rows_are_bounded};

@@ -8,8 +8,6 @@ mod forms;
 mod fresh;
 mod laws;
 mod state;
-#[cfg(test)]
-mod tests;
 mod value;
 
 pub use laws::{null_is_valued, rows_are_collected, sums_are_collected, true_ints_tell_nothing};

@@ -22,9 +22,6 @@ use lq_tree::{PFunc, PProgram, Place, Slot};
 use sqlite_items::Items;
 use std::alloc::{AllocError, Global};
 
-#[cfg(test)]
-mod tests;
-
 // The templates so far, and how many scopes have come.
 #[derive(Drop)]
 pub(crate) struct Listing {

@@ -3,8 +3,6 @@
 #![tactic(auto)]
 
 mod atom;
-#[cfg(test)]
-mod atom_tests;
 mod byte;
 mod laws;
 mod line;
@@ -13,8 +11,6 @@ mod name;
 mod numbers;
 mod numeral;
 mod order;
-#[cfg(test)]
-mod tests;
 mod word;
 
 pub use atom::{Atom, Subject, is_local_name, put_atom, read_atom};

@@ -14,8 +14,6 @@ mod program;
 mod scope;
 mod step;
 mod stmt;
-#[cfg(test)]
-mod tests;
 mod trap;
 mod types;
 

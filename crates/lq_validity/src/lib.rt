@@ -14,8 +14,6 @@ mod search;
 mod spare;
 mod sum;
 mod table;
-#[cfg(test)]
-mod tests;
 
 pub use derive::derives;
 pub use index::{GoalIndex, Index};
