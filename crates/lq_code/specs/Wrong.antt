@@ -1,5 +1,5 @@
 -- Where bytes that are no code go wrong (docs/CODE.md, "Bytes").
-use Rattle.std.specs.Prelude.{◌≡◌, ℕ, List, [], ◌∷◌, ◌++◌, length}
+use Rattle.std.specs.Prelude.{◌≡◌, ℕ, List, ◌∷◌, ◌++◌, length}
 use Rattle.std.specs.List.{concat}
 use Rattle.lq_code.specs.declared.code.Code.{Code}
 use Rattle.lq_code.specs.Spelled.{Field, fields, Spells}

@@ -1,9 +1,9 @@
 -- Codes that break a rule, and where: the first instruction at which one is broken.
-use Rattle.std.proofs.Common.{◌≡◌, refl}
-use Rattle.std.specs.Prelude.{pos, List, [], ◌∷◌, None, Some}
+use Rattle.std.proofs.Common.{refl}
+use Rattle.std.specs.Prelude.{pos, List, [], ◌∷◌}
 use Rattle.lq_code.specs.declared.op.Operator.TheVariants.{Add}
 use Rattle.lq_code.specs.declared.op.Op.{Op}
-use Rattle.lq_code.specs.declared.op.Op.TheVariants.{Num, Get, Put, Not, Bin, Jump, JumpZero, Load, Call, Test, Fork, Each, Print, Return, End}
+use Rattle.lq_code.specs.declared.op.Op.TheVariants.{Num, Get, Put, Bin, Jump, JumpZero, Load, Test, Fork, Each, Print, Return, End}
 use Rattle.lq_code.specs.declared.code.Instr.{Instr}
 use Rattle.lq_code.specs.declared.code.Code.{Code}
 use Rattle.lq_code.specs.Valid.{IsFirstBroken, IsValid}

@@ -1,8 +1,8 @@
 -- The bytes of code, and bytes that are none.
 use Rattle.std.proofs.Common.{◌≡◌, refl}
-use Rattle.std.specs.Prelude.{negsuc, List, [], ◌∷◌, None, Some}
+use Rattle.std.specs.Prelude.{negsuc, [], ◌∷◌, None, Some}
 use Rattle.lq_code.specs.declared.op.Op.TheVariants.{Num, Call, Fork}
-use Rattle.lq_code.specs.Spelled.{Field, op_fields, Spells}
+use Rattle.lq_code.specs.Spelled.{op_fields, Spells}
 use Rattle.lq_code.proofs.worked.Sum.{sum_code}
 
 -- the code of `print(1 + 2);` in 137 bytes

@@ -1,6 +1,6 @@
 -- The code of each form, from instruction 10 on.
 use Rattle.std.proofs.Common.{◌≡◌, refl}
-use Rattle.std.specs.Prelude.{pos, List, [], ◌∷◌, Option, None, Some}
+use Rattle.std.specs.Prelude.{pos, List, [], ◌∷◌, None}
 use Rattle.lq_tree.specs.declared.expr.BinOp.TheVariants as source
 use Rattle.lq_tree.specs.declared.plain.PExpr.TheVariants as plain
 use Rattle.lq_tree.specs.declared.plain.PKind.TheVariants as kind

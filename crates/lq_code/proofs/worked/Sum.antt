@@ -1,6 +1,6 @@
 -- int main(void) { print(1 + 2); return 0; }
 use Rattle.std.proofs.Common.{◌≡◌, refl}
-use Rattle.std.specs.Prelude.{pos, List, [], ◌∷◌, map, Some}
+use Rattle.std.specs.Prelude.{pos, [], ◌∷◌, map, Some}
 use Rattle.lq_tree.specs.declared.expr.BinOp.TheVariants as source
 use Rattle.lq_tree.specs.declared.plain.PKind.TheVariants as plain
 use Rattle.lq_tree.specs.declared.plain.PProgram.{PProgram}

@@ -1,7 +1,6 @@
 -- Bytes that are no code, and where they go wrong.
-use Rattle.std.proofs.Common.{◌≡◌, refl, ap, sym, ◌∙◌, ◌<◌, ◌/◌, ◌%◌, ◌^◌, arith, length-append}
+use Rattle.std.proofs.Common.{◌≡◌, refl, ap, ◌<◌, ◌/◌, ◌%◌, arith, length-append}
 use Rattle.std.specs.Prelude.{ℕ, List, [], ◌∷◌, ◌++◌, length, codes}
-use Rattle.std.specs.List.{concat}
 use Rattle.lq_code.specs.declared.code.CFunc.{CFunc}
 use Rattle.lq_code.specs.declared.code.Code.{Code}
 use Rattle.lq_code.specs.Spelled.{Field, number, fields, Spells}

@@ -1,12 +1,10 @@
 -- Calls in the arguments of others, and in the parts of a `for`: the order of the text.
 use Prim.Native.String.{String}
-use Rattle.std.proofs.Common.{◌≡◌, refl}
-use Rattle.std.specs.Prelude.{[], ◌∷◌, None, Some}
-use Rattle.lq_tree.specs.declared.expr.Expr.{Expr}
+use Rattle.std.proofs.Common.{◌≡◌}
+use Rattle.std.specs.Prelude.{[], ◌∷◌, Some}
 use Rattle.lq_tree.specs.declared.expr.BinOp.TheVariants.{Add, Lt}
 use Rattle.lq_tree.specs.declared.stmt.StmtKind.{Print, Return}
 use Rattle.lq_tree.specs.declared.program.Func.{Func}
-use Rattle.lq_tree.specs.declared.program.Program.{Program}
 use Rattle.lq_meaning.proofs.worked.SourceWords.{int, num, var, bin, call, stmt, block, set, local_set, for, param, func, program}
 use Rattle.lq_copies.proofs.worked.Digits.{one, three, two}
 use Rattle.lq_copies.specs.Copied.{copied}

@@ -1,6 +1,6 @@
 -- Short functions without parameters.
 use Prim.Native.String.{String}
-use Rattle.std.specs.Prelude.{ℕ, List, [], ◌∷◌, None, Some}
+use Rattle.std.specs.Prelude.{ℕ, List, [], None, Some}
 use Rattle.lq_tree.specs.declared.stmt.Stmt.{Stmt}
 use Rattle.lq_tree.specs.declared.program.Func.{Func}
 use Rattle.lq_meaning.proofs.worked.SourceWords.{int, stmt, call_statement, func}

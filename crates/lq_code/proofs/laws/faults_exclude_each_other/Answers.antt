@@ -1,7 +1,6 @@
 use Rattle.std.proofs.Common.{◌≡◌, subst}
-use Rattle.std.specs.Prelude.{ℕ, List, [], None, Some, slice_get}
-use Rattle.lq_code.specs.declared.code.Code.{Code}
-use Rattle.lq_code.specs.Valid.{Spot, IsValid, IsFirstBroken}
+use Rattle.std.specs.Prelude.{List, [], None, Some, slice_get}
+use Rattle.lq_code.specs.Valid.{Spot}
 use Rattle.lq_code.proofs.laws.faults_exclude_each_other.Goals as goal
 
 -- a list that is empty has no first spot
