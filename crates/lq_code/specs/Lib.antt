@@ -1,0 +1,9 @@
+pub mod Parts
+pub mod Compiled
+pub mod Spelled
+pub mod Wrong
+pub mod Regions
+pub mod Depth
+pub mod Valid
+pub mod CodeMeaning
+pub mod Fault
