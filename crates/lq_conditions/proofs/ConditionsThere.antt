@@ -34,7 +34,7 @@ use Rattle.lq_heap.specs.Records.{Reached, fold_all, folded, zero_parts, asked_o
 use Rattle.lq_effects.specs.Effects.{Effect as EffectOf, effects_of, effect_rows, asked_of, asked_access, asked_call, asked_calls}
 use Rattle.lq_disjoint.specs.Pairs.{Beside, clash, asked_pair, asked_pairs, asked_cobegin, apart}
 use Rattle.lq_conditions.specs.There.{IsNumber, IsThere, AreThere}
-use Rattle.lq_conditions.specs.Ground.{Ground, class_of_slot, fields_of, in_first, in_second, in_branch, spot_rows, at_spot, start_of, in_scope, function_scope, at_entry, argument_values, pre_rows, post_rows, is_pre, is_post}
+use Rattle.lq_ground.specs.Ground.{Ground, class_of_slot, fields_of, in_first, in_second, in_branch, spot_rows, at_spot, start_of, in_scope, function_scope, at_entry, argument_values, pre_rows, post_rows, is_pre, is_post}
 use Rattle.lq_conditions.specs.After.{opened_at, loads_from, stores_to, Ends, ends, after, after_row}
 use Rattle.lq_conditions.specs.Asked.{fixed_goal, ask, asked_bounds, accessed, asked_callee, asked_spot, if_lives, result_parts, result_state, asked_result, asked_return, with_index_value, iteration, iteration_beside, asked_foreach, blocks_beside, asked, asked_row, asked_branch, asked_branches}
 use Rattle.lq_conditions.proofs.Numbers.{all_mapped, all_flat, all_any, all_filtered, effects_there, rows_there}

@@ -29,7 +29,7 @@ use Rattle.lq_symbolic.specs.Value.{value, all_values}
 use Rattle.lq_symbolic.specs.Assume.{assumed}
 use Rattle.lq_heap.specs.Records.{Reached, folded}
 use Rattle.lq_conditions.specs.There.{IsNumber, IsThere, AreThere}
-use Rattle.lq_conditions.specs.Ground.{Ground, slots_of, class_of_slot, fields_of, in_first, in_second, changes, where_any, spot_number, spot_rows, renewed, at_spot, in_scope, argument_values, local_values, post_rows, is_post}
+use Rattle.lq_ground.specs.Ground.{Ground, slots_of, class_of_slot, fields_of, in_first, in_second, changes, where_any, spot_number, spot_rows, renewed, at_spot, in_scope, argument_values, local_values, post_rows, is_post}
 use Rattle.lq_conditions.specs.After.{element_of, opened_at, loads_from, stores_to, with_block, put_into, with_result, called, ends, after, after_row}
 use Rattle.lq_conditions.proofs.Numbers.{rows_there, spots_grow, IsOne, a_join, a_loop, one_more}
 use Rattle.lq_conditions.proofs.FineStates.{IsFine, taken_fine, items_fine, put_fine, folded_fine, rows_fine, value_fine, all_values_fine, new_of_fine, sum_fine, assumed_fine, renew_fine, open_record_fine, write_field_fine}

@@ -23,7 +23,7 @@ use Rattle.lq_symbolic.specs.declared.state.SymState.{SymState as State}
 use Rattle.lq_symbolic.specs.State.{length_of, value_at, taken, next_block, not_below_zero}
 use Rattle.lq_symbolic.specs.Value.{value}
 use Rattle.lq_conditions.specs.There.{IsNumber, AreThere}
-use Rattle.lq_conditions.specs.Ground.{Ground, class_of_slot, put_slot, param_values, renewed, pre_rows, is_pre}
+use Rattle.lq_ground.specs.Ground.{Ground, class_of_slot, put_slot, param_values, renewed, pre_rows, is_pre}
 use Rattle.lq_conditions.specs.After.{after, after_all}
 use Rattle.lq_conditions.specs.Asked.{if_lives, asked_result, asked, asked_all}
 use Rattle.lq_conditions.specs.Conditions.{nothing_known, with_params, with_input, with_input_if_any, is_main, with_arguments, entered, before_body, asked_input, asked_entry, zero_of, given_at_end, asked_end, function_conditions, count_outside, functions_conditions, count_records, conditions}

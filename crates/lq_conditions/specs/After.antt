@@ -18,7 +18,7 @@ use Rattle.lq_symbolic.specs.State.{form_of, pointer_of, length_of, parts, Value
 use Rattle.lq_symbolic.specs.Value.{value, all_values}
 use Rattle.lq_symbolic.specs.Assume.{assumed}
 use Rattle.lq_heap.specs.Records.{Reached, reached, folded, open_record, read_field, write_field}
-use Rattle.lq_conditions.specs.Ground.{Ground, class_of_slot, put_slot, fields_of, in_first, in_second, at_spot, argument_values, post_rows}
+use Rattle.lq_ground.specs.Ground.{Ground, class_of_slot, put_slot, fields_of, in_first, in_second, at_spot, argument_values, post_rows}
 
 -- ---- loads and stores
 

@@ -30,7 +30,7 @@ use Rattle.lq_symbolic.specs.Assume.{assumed}
 use Rattle.lq_heap.specs.Records.{Reached, fold_all, folded, zero_parts, asked_opening}
 use Rattle.lq_effects.specs.Effects.{asked_access, asked_calls}
 use Rattle.lq_disjoint.specs.Pairs.{Beside, asked_pairs, asked_cobegin, apart}
-use Rattle.lq_conditions.specs.Ground.{Ground, class_of_slot, put_slot, fields_of, in_first, in_second, in_branch, spot_rows, at_spot, start_of, in_scope, function_scope, at_entry, argument_values, pre_rows, post_rows}
+use Rattle.lq_ground.specs.Ground.{Ground, class_of_slot, put_slot, fields_of, in_first, in_second, in_branch, spot_rows, at_spot, start_of, in_scope, function_scope, at_entry, argument_values, pre_rows, post_rows}
 use Rattle.lq_conditions.specs.After.{opened_at, loads_from, stores_to, Ends, ends, after, after_row}
 
 -- ---- one goal or none

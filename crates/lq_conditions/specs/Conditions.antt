@@ -24,7 +24,7 @@ use Rattle.lq_symbolic.specs.declared.value.SymValue.TheVariants.{Int as OfInt, 
 use Rattle.lq_symbolic.specs.declared.state.SymState.{SymState as State}
 use Rattle.lq_symbolic.specs.State.{length_of, Valued, value_at, with_items, with_rows, taken, next_block, not_below_zero}
 use Rattle.lq_symbolic.specs.Value.{value}
-use Rattle.lq_conditions.specs.Ground.{Ground, slots_of, class_of_slot, put_slot, param_values, renewed, in_scope, pre_rows}
+use Rattle.lq_ground.specs.Ground.{Ground, slots_of, class_of_slot, put_slot, param_values, renewed, in_scope, pre_rows}
 use Rattle.lq_conditions.specs.After.{after_all}
 use Rattle.lq_conditions.specs.Asked.{ask, if_lives, asked_result, asked_all}
 

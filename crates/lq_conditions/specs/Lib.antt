@@ -1,4 +1,3 @@
-pub mod Ground
 pub mod After
 pub mod Asked
 pub mod Conditions

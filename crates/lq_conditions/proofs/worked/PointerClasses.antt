@@ -14,7 +14,7 @@ use Rattle.lq_templates.proofs.worked.Words.{classes}
 use Rattle.lq_symbolic.specs.declared.value.SymValue.{SymValue}
 use Rattle.lq_symbolic.specs.declared.value.SymValue.TheVariants.{Int as OfInt, Ptr as OfPointer}
 use Rattle.lq_symbolic.specs.declared.state.SymState.{SymState as State}
-use Rattle.lq_conditions.specs.Ground.{Ground, fields_of}
+use Rattle.lq_ground.specs.Ground.{Ground, fields_of}
 use Rattle.lq_conditions.specs.After.{after_all}
 use Rattle.lq_conditions.specs.Conditions.{entered, before_body}
 use Rattle.lq_conditions.proofs.worked.Words.{num as constant_of, sym}
