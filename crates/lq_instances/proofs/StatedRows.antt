@@ -1,13 +1,12 @@
 -- What the qualifiers of a text state at a template whose names differ are rows: different atoms are different names, so each name
 -- gets one term at most, and each term goes to one name at most.
-use Rattle.std.proofs.Common.{◌≡◌, ◌≢◌, ℕ, zero, suc, ◌+◌, ◌<◌, ◌≤◌, ◌^◌, ℤ, Bool, true, false, not, cond, ◌&&◌, ◌||◌, List, [], ◌∷◌, ◌++◌, length, map, Option, None, Some, refl, ap, ap₂, sym, ◌∙◌, inl, inr, subst, arith, length-append}
+use Rattle.std.proofs.Common.{◌≡◌, ℕ, suc, ◌+◌, ◌<◌, ◌≤◌, Bool, true, false, not, cond, ◌||◌, List, [], ◌∷◌, ◌++◌, length, map, Option, None, Some, refl, ap, ap₂, sym, ◌∙◌, inl, inr, subst, arith, length-append}
 use Rattle.std.specs.Prelude.{slice_get, codes, ◌==◌}
 use Rattle.std.specs.List.{AllByRecursion, flat_map, filter}
-use Rattle.std.proofs.lemmas.Bool.{cases_Bool, and_parts, and_from, true≢false}
+use Rattle.std.proofs.lemmas.Bool.{cases_Bool, and_parts, true≢false}
 use Rattle.std.proofs.lemmas.Bool.Decides.{Decides-eqb}
 use Rattle.lq_text.specs.Atom.{IsAtom, IsLocalName, IsSubject}
 use Rattle.lq_text.specs.Byte.{is_letter}
-use Rattle.lq_text.specs.Name.{IsName}
 use Rattle.lq_text.specs.Order.{subject_of}
 use Rattle.lq_text.specs.declared.atom.Subject.{Subject}
 use Rattle.lq_text.specs.declared.atom.Subject.TheVariants.{Field, Local, Placeholder, Returned}
@@ -24,7 +23,7 @@ use Rattle.lq_templates.specs.declared.template.NamePart.TheVariants as part
 use Rattle.lq_templates.specs.declared.template.Named.{Named}
 use Rattle.lq_templates.specs.declared.template.Template.{Template}
 use Rattle.lq_templates.specs.Rows.{same_row}
-use Rattle.lq_instances.specs.Instances.{once, Choice, chosen, text_in, is_part, part_of, is_name, is_name_at, is_of, named_terms, named_row, is_instance, is_local, is_row, all_terms, subject_at, free_locals, placeholder, placeholders, row_choices, stated_rows, chosen_rows, qualifier_rows, instances}
+use Rattle.lq_instances.specs.Instances.{once, Choice, chosen, text_in, is_part, part_of, is_name_at, is_of, named_terms, named_row, is_instance, is_local, is_row, all_terms, subject_at, free_locals, placeholder, placeholders, row_choices, stated_rows, chosen_rows, qualifier_rows, instances}
 use Rattle.lq_instances.specs.Stated.{AreSame, AreDistinct, stated_instances}
 use Rattle.lq_instances.proofs.Gathering.{In, here, there}
 use Rattle.lq_instances.proofs.Choosing.{Name, same_self, same_is, Valid, in-valid, choices-full}
@@ -331,9 +330,10 @@ module _ (atoms : List Atom) (are_atoms : (k : ℕ) (a : Atom) → slice_get ato
   fair_subject row r x i a at None e = tt
   fair_subject row r x i a at (Some (Field name)) e = tt
   fair_subject row r x i a at (Some Returned) e = tt
-  fair_subject row r x i a at (Some (Local name)) e =
-      (names_local name (subject_name a (are_atoms x.0 a at) name e),
-      λ k j. unnamed atoms t rows row r (chosen c k) (chosen_in free wanting c (λ q x. true) wanting_apart v k j).0 x i name (ap subject_at at ∙ e))
+  fair_subject row r x i a at (Some (Local name)) e = (
+    names_local name (subject_name a (are_atoms x.0 a at) name e),
+    λ k j. unnamed atoms t rows row r (chosen c k) (chosen_in free wanting c (λ q x. true) wanting_apart v k j).0 x i name (ap subject_at at ∙ e),
+  )
   fair_subject row r x i a at (Some (Placeholder k)) e = known atoms t rows row r x i k (ap subject_at at ∙ e)
 
   one_symbol : (row : Inequality) → In row rows → (n : Named) (x y : Term) → In x row.terms → In y row.terms → is_of c atoms n x ≡ true → is_of c atoms n y ≡ true → x.0 ≡ y.0
@@ -351,8 +351,8 @@ module _ (atoms : List Atom) (are_atoms : (k : ℕ) (a : Atom) → slice_get ato
 
   all_rows : chosen_rows atoms t rows c ≡ stated_rows atoms t rows c
   all_rows = filter_all is_row (stated_rows atoms t rows c) (λ made i.
-    let from = map-from (named_row c atoms t.names) made (filter (is_instance c atoms t) rows) i in
-    ap is_row from.2 ∙ made_row from.0 (in-filter (is_instance c atoms t) from.0 rows from.1).0)
+      let from = map-from (named_row c atoms t.names) made (filter (is_instance c atoms t) rows) i in
+      ap is_row from.2 ∙ made_row from.0 (in-filter (is_instance c atoms t) from.0 rows from.1).0)
 
 module _ (atoms : List Atom) (are_atoms : (k : ℕ) (a : Atom) → slice_get atoms k ≡ Some a → IsAtom a) (at_once : (i j : ℕ) (a : Atom) → slice_get atoms i ≡ Some a → slice_get atoms j ≡ Some a → i ≡ j)
     (t : Template) (distinct : AreDistinct t.names) where
@@ -361,7 +361,7 @@ module _ (atoms : List Atom) (are_atoms : (k : ℕ) (a : Atom) → slice_get ato
       let ps = placeholders atoms (all_terms (rows_of q)) in
       let locals = free_locals atoms t (all_terms (rows_of q)) in
       flat_map-alike (chosen_rows atoms t (rows_of q)) (stated_rows atoms t (rows_of q)) (row_choices atoms t (rows_of q)) (λ c i.
-        all_rows atoms are_atoms at_once t distinct (rows_of q) good c (in-valid locals ps (λ q x. true) c (subst (λ (cs : List Choice). In c cs) (choices-full locals ps) i)))
+      all_rows atoms are_atoms at_once t distinct (rows_of q) good c (in-valid locals ps (λ q x. true) c (subst (λ (cs : List Choice). In c cs) (choices-full locals ps) i)))
 
 pub all_are_rows : (quals : Quals) → ((k : ℕ) (a : Atom) → slice_get quals.atoms k ≡ Some a → IsAtom a) → ((i j : ℕ) (a : Atom) → slice_get quals.atoms i ≡ Some a → slice_get quals.atoms j ≡ Some a → i ≡ j)
     → AllByRecursion (λ each. AllByRecursion (IsGoodRow quals.atoms) (rows_of each)) quals.list → (t : Template) → AreDistinct t.names → instances t quals ≡ stated_instances t quals
