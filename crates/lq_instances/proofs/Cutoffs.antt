@@ -1,7 +1,7 @@
 -- Where the search over marks doesn't go on no row comes of what is left, so it finds the instances.
-use Rattle.std.proofs.Common.{◌≡◌, ℕ, Bool, true, false, not, cond, ◌&&◌, ◌||◌, List, [], ◌∷◌, ◌++◌, map, Option, None, Some, refl, ap, ap₂, sym, ◌∙◌, inl, inr, subst}
+use Rattle.std.proofs.Common.{◌≡◌, Bool, true, false, not, cond, ◌&&◌, ◌||◌, List, [], ◌∷◌, ◌++◌, map, Option, None, Some, refl, ap, ap₂, sym, ◌∙◌, inl, inr, subst}
 use Rattle.std.specs.Prelude.{slice_get}
-use Rattle.std.specs.List.{list_any, list_all, flat_map, filter}
+use Rattle.std.specs.List.{list_any, flat_map, filter}
 use Rattle.std.proofs.lemmas.Bool.{cases_Bool, and_parts, and_from, and_cases, or_parts}
 use Rattle.lq_text.specs.declared.atom.Subject.{Subject}
 use Rattle.lq_text.specs.declared.atom.Subject.TheVariants.{Field, Local, Placeholder, Returned}
@@ -21,8 +21,8 @@ use Rattle.lq_instances.specs.declared.table.Candidate.{Candidate}
 use Rattle.lq_templates.specs.Rows.{same_row}
 use Rattle.lq_instances.specs.Instances.{Choice, chosen, filled, is_part, part_of, text_in, is_name_at, is_of, named_row, is_wanted, mentions, are_named, is_instance, subject_at, placeholders, free_locals, all_terms, stated_rows, is_row, chosen_rows, instances}
 use Rattle.lq_instances.specs.Search.{gathered, search, are_alike, fits, searched_rows}
-use Rattle.lq_instances.specs.Cuts.{Marks, has_room, has_wanted, may_mention, found_below, is_placed, is_fixed_at, is_fixed, is_standing, is_mentioned, stands, mentioned_first, is_wanted_local, candidates, wanting, table_of, found_rows}
-use Rattle.lq_instances.proofs.Gathering.{In, here, there, in-append}
+use Rattle.lq_instances.specs.Cuts.{has_room, has_wanted, may_mention, found_below, is_placed, is_fixed_at, is_fixed, is_standing, is_mentioned, stands, mentioned_first, is_wanted_local, wanting, table_of, found_rows}
+use Rattle.lq_instances.proofs.Gathering.{In, here, there}
 use Rattle.lq_instances.proofs.Choosing.{Name, minus, Valid, same_self}
 use Rattle.lq_instances.proofs.Exchanging.{any-pointwise}
 use Rattle.lq_instances.proofs.Cutting.{keys, cut_same}

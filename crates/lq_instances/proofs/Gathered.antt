@@ -1,7 +1,7 @@
 -- What is put down one after another is what is put down at once, and a fault at a part is one of the whole.
-use Rattle.std.proofs.Common.{◌≡◌, ℕ, ◌+◌, ◌<◌, ◌≤◌, Bool, true, false, not, cond, ◌&&◌, ◌||◌, List, [], ◌∷◌, ◌++◌, map, length, refl, ap, ap₂, sym, ◌∙◌, subst, arith, length-append, append_assoc}
+use Rattle.std.proofs.Common.{◌≡◌, ◌<◌, ◌≤◌, Bool, true, false, not, cond, ◌||◌, List, [], ◌∷◌, ◌++◌, map, length, refl, ap, sym, ◌∙◌, subst, arith, length-append}
 use Rattle.std.specs.Prelude.{slice_get}
-use Rattle.std.specs.List.{list_any, flat_map, filter}
+use Rattle.std.specs.List.{list_any, filter}
 use Rattle.std.proofs.lemmas.List.Elements.{filter-append}
 use Rattle.std.proofs.lemmas.List.Concat.{flat_map-append}
 use Rattle.lq_text.specs.declared.atom.Atom.{Atom}
@@ -14,7 +14,7 @@ use Rattle.lq_instances.specs.declared.fault.TemplateFault.{TemplateFault}
 use Rattle.lq_instances.specs.declared.fault.TemplateFault.TheVariants.{Limit, NoMemory}
 use Rattle.lq_instances.specs.Faults.{Tells}
 use Rattle.lq_templates.specs.Rows.{same_row}
-use Rattle.lq_instances.specs.Instances.{Choice, named_row, is_instance, named_local, named_locals, placeholder, placeholders, subject_at, locals_of, local_of, stated_rows, is_row, chosen_rows}
+use Rattle.lq_instances.specs.Instances.{Choice, named_row, is_instance, named_local, named_locals, placeholder, placeholders, subject_at, locals_of, local_of, is_row, chosen_rows}
 use Rattle.lq_instances.specs.Search.{gathered}
 use Rattle.lq_instances.specs.Cuts.{told_placeholders, free_among, is_wanted_local, candidates}
 use Rattle.lq_instances.proofs.Gathering.{gathered-append, once-gathered}

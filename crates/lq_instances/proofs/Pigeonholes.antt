@@ -1,11 +1,10 @@
 -- Placeholders that may only get certain locals are no more than these where there is a choice.
-use Rattle.std.proofs.Common.{◌≡◌, ℕ, suc, ◌+◌, ◌≤◌, Bool, true, false, not, cond, ◌&&◌, ◌||◌, List, [], ◌∷◌, map, refl, ap, sym, ◌∙◌, inl, inr, subst, arith}
-use Rattle.std.specs.Prelude.{nat_le, count_by}
+use Rattle.std.proofs.Common.{◌≡◌, ℕ, ◌+◌, ◌≤◌, Bool, true, false, not, cond, ◌&&◌, ◌||◌, List, [], ◌∷◌, map, refl, ap, sym, ◌∙◌, inl, inr, subst, arith}
+use Rattle.std.specs.Prelude.{nat_le}
 use Rattle.std.specs.List.{list_all}
 use Rattle.std.proofs.lemmas.Bool.{cases_Bool, and_parts, and_from, le-leb}
 use Rattle.std.proofs.lemmas.List.Sums.{sum_by-cons}
 use Rattle.lq_tree.specs.Lookup.{same}
-use Rattle.lq_instances.specs.declared.table.Candidate.{Candidate}
 use Rattle.lq_instances.specs.Instances.{Choice}
 use Rattle.lq_instances.specs.Search.{tries, search, left_over, is_in}
 use Rattle.lq_instances.specs.Cuts.{Marks, is_inside, needed, marked, has_room, table_of}

@@ -1,5 +1,5 @@
 -- The test of a row tells whether it is within the bounds of rows, and collected.
-use Rattle.std.proofs.Common.{◌≡◌, subst, ℕ, suc, ◌<◌, ◌≤◌, ◌^◌, ℤ, pos, negsuc, Bool, true, false, Option, None, Some, not, ltb, leb, ◌&&◌, List, [], ◌∷◌, length, refl, sym, ap, ◌∙◌, inl, inr, arith}
+use Rattle.std.proofs.Common.{◌≡◌, subst, ℕ, suc, ◌<◌, ◌^◌, ℤ, pos, negsuc, Bool, true, false, Option, None, Some, not, ltb, leb, ◌&&◌, List, [], ◌∷◌, length, refl, sym, ap, ◌∙◌, inl, inr, arith}
 use Rattle.std.specs.List.{AllByRecursion, list_all}
 use Rattle.std.specs.Prelude.{◌↔◌, IsSome, IfSome}
 use Rattle.std.specs.Ordering.{int_eq}

@@ -1,13 +1,12 @@
 -- What the qualifiers of a text state at a template whose names differ are rows: different atoms are different names, so each name
 -- gets one term at most, and each term goes to one name at most.
-use Rattle.std.proofs.Common.{◌≡◌, ◌≢◌, ℕ, zero, suc, ◌+◌, ◌<◌, ◌≤◌, ◌^◌, ℤ, Bool, true, false, not, cond, ◌&&◌, ◌||◌, List, [], ◌∷◌, ◌++◌, length, map, Option, None, Some, refl, ap, ap₂, sym, ◌∙◌, inl, inr, subst, arith, length-append}
+use Rattle.std.proofs.Common.{◌≡◌, ℕ, suc, ◌+◌, ◌<◌, ◌≤◌, Bool, true, false, not, cond, ◌||◌, List, [], ◌∷◌, ◌++◌, length, map, Option, None, Some, refl, ap, ap₂, sym, ◌∙◌, inl, inr, subst, arith, length-append}
 use Rattle.std.specs.Prelude.{slice_get, codes, ◌==◌}
 use Rattle.std.specs.List.{AllByRecursion, flat_map, filter}
-use Rattle.std.proofs.lemmas.Bool.{cases_Bool, and_parts, and_from, true≢false}
+use Rattle.std.proofs.lemmas.Bool.{cases_Bool, and_parts, true≢false}
 use Rattle.std.proofs.lemmas.Bool.Decides.{Decides-eqb}
 use Rattle.lq_text.specs.Atom.{IsAtom, IsLocalName, IsSubject}
 use Rattle.lq_text.specs.Byte.{is_letter}
-use Rattle.lq_text.specs.Name.{IsName}
 use Rattle.lq_text.specs.Order.{subject_of}
 use Rattle.lq_text.specs.declared.atom.Subject.{Subject}
 use Rattle.lq_text.specs.declared.atom.Subject.TheVariants.{Field, Local, Placeholder, Returned}
@@ -24,7 +23,7 @@ use Rattle.lq_templates.specs.declared.template.NamePart.TheVariants as part
 use Rattle.lq_templates.specs.declared.template.Named.{Named}
 use Rattle.lq_templates.specs.declared.template.Template.{Template}
 use Rattle.lq_templates.specs.Rows.{same_row}
-use Rattle.lq_instances.specs.Instances.{once, Choice, chosen, text_in, is_part, part_of, is_name, is_name_at, is_of, named_terms, named_row, is_instance, is_local, is_row, all_terms, subject_at, free_locals, placeholder, placeholders, row_choices, stated_rows, chosen_rows, qualifier_rows, instances}
+use Rattle.lq_instances.specs.Instances.{once, Choice, chosen, text_in, is_part, part_of, is_name_at, is_of, named_terms, named_row, is_instance, is_local, is_row, all_terms, subject_at, free_locals, placeholder, placeholders, row_choices, stated_rows, chosen_rows, qualifier_rows, instances}
 use Rattle.lq_instances.specs.Stated.{AreSame, AreDistinct, stated_instances}
 use Rattle.lq_instances.proofs.Gathering.{In, here, there}
 use Rattle.lq_instances.proofs.Choosing.{Name, same_self, same_is, Valid, in-valid, choices-full}

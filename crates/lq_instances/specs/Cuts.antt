@@ -1,5 +1,5 @@
 -- The search for instances over marks, behind no part of a choice that no row comes of. What stands here is cited by private functions alone.
-use Rattle.std.specs.Prelude.{◌≡◌, ℕ, ◌<◌, ◌≤◌, nat_le, length, filter, Bool, true, false, not, ◌&&◌, ◌||◌, if◌then◌else◌, List, [], ◌∷◌, ◌++◌, map, zip, count_by, Option, None, Some, Result, slice_get, find}
+use Rattle.std.specs.Prelude.{◌≡◌, ℕ, nat_le, filter, Bool, true, false, not, ◌&&◌, ◌||◌, if◌then◌else◌, List, [], ◌∷◌, ◌++◌, map, zip, count_by, Option, None, Some, slice_get}
 use Rattle.std.specs.List.{list_any, list_all, flat_map}
 use Rattle.lq_text.specs.declared.atom.Subject.{Subject}
 use Rattle.lq_text.specs.declared.atom.Subject.TheVariants.{Placeholder}
@@ -10,7 +10,6 @@ use Rattle.lq_quals.specs.declared.qualifier.Qualifier.{Qualifier}
 use Rattle.lq_quals.specs.Qualifier.{rows_of}
 use Rattle.lq_tree.specs.Lookup.{same}
 use Rattle.lq_tree.specs.Limit.{passed}
-use Rattle.lq_tree.specs.declared.limit.Quantity.TheVariants as quantity
 use Rattle.lq_templates.specs.declared.template.Named.{Named}
 use Rattle.lq_templates.specs.declared.template.Template.{Template}
 use Rattle.lq_instances.specs.declared.table.Candidate.{Candidate}
