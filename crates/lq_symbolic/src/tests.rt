@@ -1,6 +1,6 @@
 //! Values of expressions, and what conditions tell.
 
-use crate::{SymState, SymValue, all_parts};
+use crate::{OpenRecords, SymState, SymValue, all_parts};
 use lq_chain::Chain;
 use lq_linear::Form;
 use lq_tree::{BinOp, Boxed, Items, PExpr};
@@ -12,7 +12,7 @@ fn start(alloc: Global) -> Result<SymState, AllocError> {
     let mut state = SymState {
         slots: Items::new(alloc),
         items: Chain::new(alloc),
-        opened: Items::new(alloc),
+        opened: OpenRecords::new(alloc),
         scopes: Items::new(alloc),
         next: 0,
     };
