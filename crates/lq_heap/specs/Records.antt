@@ -1,5 +1,5 @@
 -- Open records: opened, read, written and folded (docs/CHECKING.md, "Opening and folding").
-use Rattle.std.specs.Prelude.{◌==◌, ℕ, nat_lt, Bool, false, ◌&&◌, if◌then◌else◌, List, [], ◌∷◌, map, Option, None, Some, pos, slice_index_or, slice_set}
+use Rattle.std.specs.Prelude.{◌≡◌, ◌==◌, ℕ, nat_lt, Bool, false, ◌&&◌, if◌then◌else◌, List, [], ◌∷◌, find, map, Option, None, Some, pos, slice_index_or, slice_set}
 use Rattle.std.specs.Ordering.{int_eq}
 use Rattle.std.specs.Cmp.Lexicographic.{pointwise}
 use Rattle.lq_linear.specs.Form.{Linear, sum_of}
@@ -27,6 +27,10 @@ pub record Reached : Type 0 where
   pub at : SymPtr
   pub state : State
 
+-- this element is reached, and this state is left
+abbrev pub Reaches : Reached → SymPtr → State → Type 0
+Reaches found at s = found ≡ record { at = at; state = s }
+
 -- the element that a pointer and an index name: the offset and the index added up
 abbrev pub reached : SymPtr → (index : Linear) → State → Reached
 reached p index s =
@@ -37,8 +41,7 @@ reached p index s =
 
 -- the open record of a class
 abbrev pub opened_of : (class : ℕ) → List Opened → Option Opened
-opened_of class [] = None
-opened_of class (o ∷ rest) = if o.class == class then Some o else opened_of class rest
+opened_of class opened = find (λ o. o.class == class) opened
 
 -- a record is open now, and no other of its class; they stand in order of class
 abbrev pub with_opened : Opened → List Opened → List Opened
@@ -107,11 +110,12 @@ open_record class types at s = if is_at at (opened_of class s.opened) then s els
 abbrev pub read_field : (class field : ℕ) → State → SymValue
 read_field class field s = slice_index_or (fields_in (opened_of class s.opened)) field (OfInt (constant (pos 0)))
 
--- the fields of an open record change
-abbrev pub with_fields : (List SymValue → List SymValue) → Option Opened → State → State
-with_fields change None s = s
-with_fields change (Some o) s = record s { opened = with_opened (record o { fields = change o.fields }) s.opened }
+-- the fields of the open record of a class change
+abbrev pub with_fields : (class : ℕ) → (List SymValue → List SymValue) → List Opened → List Opened
+with_fields class change [] = []
+with_fields class change (o ∷ rest) =
+    if o.class == class then record o { fields = change o.fields } ∷ rest else o ∷ with_fields class change rest
 
 -- a field of the open record of a class gets a value
 abbrev pub write_field : (class field : ℕ) → SymValue → State → State
-write_field class field value s = with_fields (λ fields. slice_set fields field value) (opened_of class s.opened) s
+write_field class field value s = record s { opened = with_fields class (λ fields. slice_set fields field value) s.opened }

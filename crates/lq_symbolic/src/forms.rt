@@ -26,7 +26,7 @@ pub(crate) fn constant(alloc: Global, number: i64) -> Option<Form>
 }
 
 /// The form that is 0.
-pub(crate) fn zero(alloc: Global) -> Result<Form, AllocError>
+pub fn zero(alloc: Global) -> Result<Form, AllocError>
     ensures { IfOk result (λ f. f ≡ collect.constant (pos 0)) }
 {
     Form::of(Vec::new(alloc), 0).ok_or(AllocError)

@@ -7,9 +7,12 @@ mod expression;
 mod forms;
 mod fresh;
 mod laws;
+mod records;
 mod state;
 mod value;
 
+pub use forms::zero;
 pub use laws::{null_is_valued, rows_are_collected, sums_are_collected, true_ints_tell_nothing};
+pub use records::OpenRecords;
 pub use state::{FieldType, Opened, Start, SymState};
 pub use value::{SymPtr, SymValue, all_parts};

@@ -1,10 +1,11 @@
 //! What the checker knows at a point of the text.
 
-ghost use Rattle.std.specs.Prelude.{◌≡◌, ◌+◌, ◌^◌, ◌<◌, [], ◌∷◌, IfOk, OnOk};
+ghost use Rattle.std.specs.Prelude.{◌≡◌, ◌+◌, ◌^◌, ◌<◌, [], ◌∷◌, slice_set, IfOk, OnOk};
 ghost use Rattle.lq_linear.specs.Sides as sides;
 ghost use Rattle.lq_symbolic.specs.State as spec;
 
 use crate::forms::{at_most, below, zero};
+use crate::records::OpenRecords;
 use crate::value::{SymPtr, SymValue, copy_forms, copy_values};
 use lq_chain::Chain;
 use lq_linear::{Form, Item, Row};
@@ -41,7 +42,7 @@ pub struct Start {
 pub struct SymState {
     pub slots: Items<SymValue>,
     pub items: Chain<Given>,
-    pub opened: Items<Opened>,
+    pub opened: OpenRecords,
     pub scopes: Items<Start>,
     pub next: u32,
 }
@@ -57,6 +58,16 @@ impl Opened {
             fields: copy_values(alloc, self.fields.as_slice())?,
         })
     }
+
+    /// A field gets a value. Nothing changes where there is no such field.
+    pub fn put(&mut self, field: u32, value: SymValue)
+        ensures { self.new ≡ record self.old { fields = slice_set self.old.fields field value } }
+    {
+        let field = field as usize;
+        if field < self.fields.len() {
+            self.fields.set(field, value);
+        }
+    }
 }
 
 impl Start {
@@ -69,17 +80,6 @@ impl Start {
             values: copy_forms(alloc, self.values.as_slice())?,
         })
     }
-}
-
-// The same records once more.
-fn copy_opened(alloc: Global, opened: &[Opened]) -> Result<Items<Opened>, AllocError>
-    ensures { IfOk result (λ copy. copy ≡ opened.now) }
-{
-    let mut copy = Items::new(alloc);
-    for record in opened {
-        copy.push(record.copy(alloc)?)?;
-    }
-    Ok(copy)
 }
 
 // The same scopes once more.
@@ -101,7 +101,7 @@ impl SymState {
         Ok(SymState {
             slots: copy_values(alloc, self.slots.as_slice())?,
             items: self.items.copy()?,
-            opened: copy_opened(alloc, self.opened.as_slice())?,
+            opened: self.opened.copy(alloc)?,
             scopes: copy_starts(alloc, self.scopes.as_slice())?,
             next: self.next,
         })

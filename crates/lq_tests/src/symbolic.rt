@@ -2,7 +2,7 @@
 
 use lq_chain::Chain;
 use lq_linear::Form;
-use lq_symbolic::{SymState, SymValue, all_parts};
+use lq_symbolic::{OpenRecords, SymState, SymValue, all_parts};
 use lq_tree::{BinOp, Boxed, Items, PExpr};
 use std::alloc::{AllocError, Global};
 use std::test::Fail;
@@ -12,7 +12,7 @@ fn start(alloc: Global) -> Result<SymState, AllocError> {
     let mut state = SymState {
         slots: Items::new(alloc),
         items: Chain::new(alloc),
-        opened: Items::new(alloc),
+        opened: OpenRecords::new(alloc),
         scopes: Items::new(alloc),
         next: 0,
     };
