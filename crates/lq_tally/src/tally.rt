@@ -1,6 +1,6 @@
 //! The list, and the count.
 
-ghost use Rattle.std.specs.Prelude.{◌≡◌, ◌≤◌, ◌+◌, [], ◌∷◌, length, IsTrue, IfOk, OnOk};
+ghost use Rattle.std.specs.Prelude.{◌≡◌, ◌↔◌, ◌≤◌, ◌+◌, [], ◌∷◌, length, IsTrue, IfOk, OnOk};
 ghost use Rattle.lq_templates.specs.Conditions.{asks};
 ghost use Rattle.lq_tally.specs.Tally.{tallied};
 
