@@ -12,6 +12,7 @@ mod state;
 mod tests;
 mod value;
 
+pub use forms::{copy_form, symbol};
 pub use laws::{null_is_valued, rows_are_collected, sums_are_collected, true_ints_tell_nothing};
 pub use state::{FieldType, Opened, Start, SymState};
 pub use value::{SymPtr, SymValue, all_parts};
