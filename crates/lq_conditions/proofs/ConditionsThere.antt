@@ -31,8 +31,10 @@ use Rattle.lq_symbolic.specs.State.{length_of, Valued, with_rows, taken, not_bel
 use Rattle.lq_symbolic.specs.Value.{value, all_values}
 use Rattle.lq_symbolic.specs.Assume.{assumed}
 use Rattle.lq_heap.specs.Records.{Reached, fold_all, folded, zero_parts, asked_opening}
-use Rattle.lq_effects.specs.Effects.{Effect as EffectOf, effects_of, effect_rows, asked_of, asked_access, asked_call, asked_calls}
-use Rattle.lq_disjoint.specs.Pairs.{Beside, clash, asked_pair, asked_pairs, asked_cobegin, apart}
+use Rattle.lq_effects.specs.declared.effect.Effect.{Effect as EffectOf}
+use Rattle.lq_effects.specs.Effects.{effects_of, effect_rows, asked_of, asked_access, asked_call, asked_calls}
+use Rattle.lq_disjoint.specs.declared.beside.Beside.{Beside}
+use Rattle.lq_disjoint.specs.Pairs.{clash, asked_pair, asked_pairs, asked_cobegin, apart}
 use Rattle.lq_conditions.specs.There.{IsNumber, IsThere, AreThere}
 use Rattle.lq_ground.specs.Ground.{Ground, class_of_slot, fields_of, in_first, in_second, in_branch, spot_rows, at_spot, start_of, in_scope, function_scope, at_entry, argument_values, pre_rows, post_rows, is_pre, is_post}
 use Rattle.lq_conditions.specs.After.{opened_at, loads_from, stores_to, Ends, ends, after, after_row}

@@ -11,7 +11,8 @@ use Rattle.lq_templates.specs.declared.template.TemplateKind.TheVariants.{Rec, P
 use Rattle.lq_templates.specs.declared.template.Template.{Template}
 use Rattle.lq_templates.specs.Spots.{Spot, join, loop, inner_scope}
 use Rattle.lq_templates.specs.Templates.{Env, spot_templates, effect_templates}
-use Rattle.lq_effects.specs.Effects.{Effect as EffectOf, effect_at, effects_from, effects_of}
+use Rattle.lq_effects.specs.declared.effect.Effect.{Effect as EffectOf}
+use Rattle.lq_effects.specs.Effects.{effect_at, effects_from, effects_of}
 use Rattle.lq_ground.specs.Ground.{rows_where}
 use Rattle.lq_conditions.specs.There.{IsNumber, IsThere}
 

@@ -29,7 +29,8 @@ use Rattle.lq_symbolic.specs.Value.{value, all_values}
 use Rattle.lq_symbolic.specs.Assume.{assumed}
 use Rattle.lq_heap.specs.Records.{Reached, fold_all, folded, zero_parts, asked_opening}
 use Rattle.lq_effects.specs.Effects.{asked_access, asked_calls}
-use Rattle.lq_disjoint.specs.Pairs.{Beside, asked_pairs, asked_cobegin, apart}
+use Rattle.lq_disjoint.specs.declared.beside.Beside.{Beside}
+use Rattle.lq_disjoint.specs.Pairs.{asked_cobegin, asked_iterations}
 use Rattle.lq_ground.specs.Ground.{Ground, class_of_slot, put_slot, fields_of, in_first, in_second, in_branch, spot_rows, at_spot, start_of, in_scope, function_scope, at_entry, argument_values, pre_rows, post_rows}
 use Rattle.lq_conditions.specs.After.{opened_at, loads_from, stores_to, Ends, ends, after, after_row}
 
@@ -128,8 +129,7 @@ iteration_beside g index w s (Branch' at n body) number = record { place = at; s
 -- each two iterations: on two new indices and a new element
 abbrev pub asked_foreach : Ground → Place → (index : ℕ) → Ends → (step : ℤ) → Branch → Walk → State → List Condition
 asked_foreach g at index e step branch w s =
-    let facts = (with_rows (apart e.low e.high step (symbol s.next) (symbol (s.next + 1))) s).items in
-    asked_pairs g.templates at facts (symbol (s.next + 2))
+    asked_iterations g.templates at e.low e.high step s
     (iteration_beside g index w s branch s.next) (iteration_beside g index w s branch (s.next + 1))
 
 -- the blocks of a `cobegin` with their scopes

@@ -7,7 +7,8 @@ ghost use Rattle.lq_linear.specs.Form.{Linear};
 ghost use Rattle.lq_templates.specs.declared.condition.Given.{Given};
 ghost use Rattle.lq_templates.specs.declared.template.Template.{Template};
 ghost use Rattle.lq_templates.specs.Accesses.{Access};
-ghost use Rattle.lq_disjoint.specs.Pairs.{Beside, clash, asked_cobegin};
+ghost use Rattle.lq_disjoint.specs.declared.beside.Beside.{Beside};
+ghost use Rattle.lq_disjoint.specs.Pairs.{clash, asked_cobegin};
 
 /// Two reads never clash.
 pub fn reads_never_clash()

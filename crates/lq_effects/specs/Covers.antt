@@ -5,7 +5,8 @@ use Rattle.lq_templates.specs.declared.condition.Assign.{Assign}
 use Rattle.lq_templates.specs.declared.template.Template.{Template}
 use Rattle.lq_templates.specs.Accesses.{Access}
 use Rattle.lq_templates.specs.Conditions.{RowsHold}
-use Rattle.lq_effects.specs.Effects.{Effect, effects_of}
+use Rattle.lq_effects.specs.declared.effect.Effect.{Effect}
+use Rattle.lq_effects.specs.Effects.{effects_of}
 
 -- a scope that has begun in a run: its number, and the numbers that its names stood for then
 pub record Begun : Type 0 where

@@ -15,11 +15,7 @@ use Rattle.lq_templates.specs.Accesses.{Access, same_access}
 use Rattle.lq_templates.specs.Conditions.{asks}
 use Rattle.lq_symbolic.specs.declared.state.Start.{Start}
 use Rattle.lq_symbolic.specs.declared.state.SymState.{SymState as State}
-
--- an effect template: its number, and the access that it stands for
-pub record Effect : Type 0 where
-  pub number : ℕ
-  pub access : Access
+use Rattle.lq_effects.specs.declared.effect.Effect.{Effect}
 
 -- the template with this number, if it is an effect template of the scope
 abbrev pub effect_at : (scope number : ℕ) → TemplateKind → List Effect

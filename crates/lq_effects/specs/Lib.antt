@@ -1,2 +1,4 @@
 pub mod Effects
+pub mod Table
+pub mod Counted
 pub mod Covers

@@ -11,7 +11,7 @@ use lq_linear::{Divisor, Form, MOST_COEFFICIENT, Row, add, scale};
 use std::alloc::{AllocError, Global};
 
 /// The same form once more.
-pub(crate) fn copy_form(alloc: Global, form: &Form) -> Result<Form, AllocError>
+pub fn copy_form(alloc: Global, form: &Form) -> Result<Form, AllocError>
     ensures { IfOk result (λ f. f ≡ form.now) }
 {
     let terms = Vec::from_slice(alloc, form.terms())?;
@@ -40,7 +40,7 @@ pub(crate) fn one(alloc: Global) -> Result<Form, AllocError>
 }
 
 /// The form that is a symbol.
-pub(crate) fn symbol(alloc: Global, symbol: u32) -> Result<Form, AllocError>
+pub fn symbol(alloc: Global, symbol: u32) -> Result<Form, AllocError>
     ensures { IfOk result (λ f. f ≡ collect.symbol symbol) }
 {
     let mut terms = Vec::new(alloc);

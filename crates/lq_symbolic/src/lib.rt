@@ -11,7 +11,7 @@ mod records;
 mod state;
 mod value;
 
-pub use forms::zero;
+pub use forms::{copy_form, symbol, zero};
 pub use laws::{null_is_valued, rows_are_collected, sums_are_collected, true_ints_tell_nothing};
 pub use records::OpenRecords;
 pub use state::{FieldType, Opened, Start, SymState};
