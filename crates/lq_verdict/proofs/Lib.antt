@@ -1,5 +1,3 @@
-pub mod Parts
-pub mod MoreFacts
 pub mod Agreement
 pub mod Shown
 pub mod worked

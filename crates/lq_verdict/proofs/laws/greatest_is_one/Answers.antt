@@ -1,5 +1,5 @@
 -- Two greatest assignments are within each other.
-use Rattle.lq_verdict.proofs.Parts.{within_same}
+use Rattle.lq_fixpoint.proofs.Parts.{within_same}
 use Rattle.lq_verdict.proofs.laws.greatest_is_one.Goals as goal
 
 pub returns : goal.returns

@@ -1,0 +1,5 @@
+pub mod Filling
+pub mod Goals
+pub mod Sifting
+pub mod Thinning
+pub mod Asking
