@@ -1,6 +1,6 @@
 -- A claim keeps the rule.
-use Rattle.std.proofs.Common.{◌≡◌, ◌≢◌, ℕ, zero, suc, min, ◌+◌, ◌-◌, ◌*◌, ◌%◌, ◌^◌, ◌<◌, ◌≤◌, List, [], ◌∷◌, ◌++◌, length, set, sym, ap, refl, subst, ◌∙◌, inl, inr, ⊎_elim, sum_by, Bool, true, false, arith}
-use Rattle.std.specs.Prelude.{nat_lt, slice_index}
+use Rattle.std.proofs.Common.{◌≡◌, ◌≢◌, ℕ, zero, suc, min, ◌+◌, ◌-◌, ◌%◌, ◌^◌, ◌<◌, ◌≤◌, List, [], ◌∷◌, length, set, sym, ap, refl, subst, ◌∙◌, inl, inr, ⊎_elim, true, false, arith}
+use Rattle.std.specs.Prelude.{nat_lt}
 use Rattle.std.proofs.Math.Nat.{mod-eq_of_lt}
 use mathlib.Core.Option.{some, none, some-ne-none}
 use lib.ListN.{get_elem?}
@@ -13,7 +13,7 @@ use Rattle.lq_rule.proofs.Totals.{sum_by_set_at, one_of_sum}
 use Rattle.lq_claims.specs.declared.view.Round.{Round}
 use Rattle.lq_claims.specs.declared.view.View.{View}
 use Rattle.lq_claims.specs.View.{times, claimed, spent}
-use Rattle.lq_claims.specs.Claims.{next_number, back_count, holders, returners, IsHome, IsRight, AreCounted, AreClaimed, HasSlots, IsKept}
+use Rattle.lq_claims.specs.Claims.{next_number, holders, returners, IsRight, AreCounted, AreClaimed, HasSlots, IsKept}
 use Rattle.lq_claims.specs.Steps.{with_number, marked, Claims}
 use Rattle.lq_claims.specs.Laws.{Fits}
 use Rattle.lq_claims.proofs.Counts.{views_set, times_same, times_other}

@@ -1,5 +1,5 @@
 -- How often numbers stand in lists; and lists of views: sums over them, and what holds of each, after views were changed, split and joined.
-use Rattle.std.proofs.Common.{◌≡◌, ◌≢◌, ℕ, zero, suc, ◌+◌, ◌≤◌, List, [], ◌∷◌, ◌++◌, length, set, sym, ap, refl, subst, ⊎_elim, cond, eq-eqb, ne_eqb, sum_by, arith}
+use Rattle.std.proofs.Common.{◌≡◌, ◌≢◌, ℕ, zero, suc, ◌+◌, List, [], ◌∷◌, ◌++◌, set, sym, ap, refl, subst, ⊎_elim, cond, eq-eqb, ne_eqb, sum_by, arith}
 use mathlib.Core.Option.{some, some-injective, some-ne-none}
 use lib.ListN.{get_elem?}
 use Rattle.atomic_table.proofs.Lists.{at_set}

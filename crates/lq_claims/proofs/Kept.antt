@@ -1,14 +1,13 @@
 -- What keeps the rule: other views where the words and slots stay, and the words that a step writes.
-use Rattle.std.proofs.Common.{◌≡◌, ◌≢◌, ◌⊎◌, ℕ, ◌+◌, ◌<◌, ◌≤◌, List, length, set, sym, ap, refl, subst, ◌∙◌, ⊎_elim, sum_by, true, arith}
-use Rattle.std.specs.Prelude.{slice_index}
-use mathlib.Core.Option.{some, none}
+use Rattle.std.proofs.Common.{◌≡◌, ◌⊎◌, ℕ, ◌<◌, List, length, set, sym, ap, ◌∙◌, ⊎_elim, sum_by, arith}
+use mathlib.Core.Option.{some}
 use lib.ListN.{get_elem?}
 use Rattle.atomic_table.specs.Table.{State}
-use Rattle.std.proofs.lemmas.List.{get_or-set_same, get_or-set_other, length-set}
+use Rattle.std.proofs.lemmas.List.{get_or-set_same, get_or-set_other}
 use Rattle.lq_claims.specs.declared.view.Round.{Round}
 use Rattle.lq_claims.specs.declared.view.View.{View}
-use Rattle.lq_claims.specs.View.{times, claimed, spent}
-use Rattle.lq_claims.specs.Claims.{next_number, back_count, holders, returners, IsRight, AreCounted, AreClaimed, HasSlots, IsKept}
+use Rattle.lq_claims.specs.View.{claimed, spent}
+use Rattle.lq_claims.specs.Claims.{next_number, back_count, holders, returners, IsRight, IsKept}
 
 -- a view is spent, or right
 abbrev pub IsFine : (chunks next : ℕ) → View → Type 0

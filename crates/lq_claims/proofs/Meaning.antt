@@ -1,11 +1,11 @@
 -- What the rule means.
-use Rattle.std.proofs.Common.{◌≡◌, ◌≢◌, ℕ, min, ◌+◌, ◌<◌, ◌≤◌, List, [], length, sym, ap, refl, subst, ◌∙◌, ⊎_elim, sum_by, true, arith}
+use Rattle.std.proofs.Common.{◌≡◌, ◌≢◌, ℕ, min, ◌+◌, ◌<◌, ◌≤◌, List, [], length, ap, refl, ◌∙◌, ⊎_elim, sum_by, true, arith}
 use mathlib.Core.Option.{some}
 use lib.ListN.{get_elem?}
 use native.Mathlib.Decide.{dec_lt}
 use Rattle.atomic_table.specs.Table.{State}
 use Rattle.std.proofs.lemmas.List.{length-append}
-use Rattle.lq_rule.proofs.Totals.{one_of_sum, two_of_sum}
+use Rattle.lq_rule.proofs.Totals.{two_of_sum}
 use Rattle.lq_claims.specs.declared.view.Round.{Round}
 use Rattle.lq_claims.specs.declared.view.View.{View}
 use Rattle.lq_claims.specs.View.{times, claimed, spent}

@@ -1,15 +1,15 @@
 -- The opening table, splits and joins keep the rule.
-use Rattle.std.proofs.Common.{◌≡◌, ◌≢◌, ◌⊎◌, ℕ, zero, suc, ◌+◌, ◌-◌, ◌*◌, ◌<◌, ◌≤◌, List, [], ◌∷◌, ◌++◌, length, map, set, sym, ap, refl, subst, ◌∙◌, inl, inr, ⊎_elim, sum_by, Bool, true, false, true≢false, arith}
+use Rattle.std.proofs.Common.{◌≡◌, ◌≢◌, ◌⊎◌, ℕ, zero, suc, ◌+◌, ◌<◌, ◌≤◌, List, [], ◌∷◌, ◌++◌, length, map, set, sym, ap, refl, subst, ◌∙◌, inl, inr, ⊎_elim, Bool, true, false, true≢false, arith}
 use Rattle.std.specs.Prelude.{◌||◌, replicate}
-use mathlib.Core.Option.{some, none, some-injective, some-ne-none}
+use mathlib.Core.Option.{some, some-injective, some-ne-none}
 use lib.ListN.{get_elem?}
-use Rattle.atomic_table.specs.Table.{State, opening, Splits, Joins}
+use Rattle.atomic_table.specs.Table.{opening, Splits, Joins}
 use Rattle.atomic_table.proofs.Lists.{at_set, at_snoc}
 use Rattle.std.proofs.lemmas.List.{length-map, length-append}
 use Rattle.lq_claims.specs.declared.view.Round.{Round}
 use Rattle.lq_claims.specs.declared.view.View.{View}
 use Rattle.lq_claims.specs.View.{times, claimed, spent}
-use Rattle.lq_claims.specs.Claims.{next_number, holders, returners, IsHome, IsRight, IsKept, opening_view}
+use Rattle.lq_claims.specs.Claims.{next_number, IsRight, IsKept, opening_view}
 use Rattle.lq_claims.specs.Steps.{kept_part, given_part, joined_view}
 use Rattle.lq_claims.proofs.Counts.{times_append, split_total, join_total, views_set}
 use Rattle.lq_claims.proofs.Kept.{IsFine, right_of, moved}

@@ -1,17 +1,17 @@
 -- A return keeps the rule.
-use Rattle.std.proofs.Common.{◌≡◌, ◌≢◌, ℕ, min, ◌+◌, ◌-◌, ◌*◌, ◌%◌, ◌^◌, ◌<◌, ◌≤◌, List, [], ◌∷◌, ◌++◌, length, set, sym, ap, refl, subst, ◌∙◌, inl, inr, ⊎_elim, sum_by, arith}
+use Rattle.std.proofs.Common.{◌≡◌, ◌≢◌, ℕ, min, ◌+◌, ◌%◌, ◌^◌, ◌<◌, ◌≤◌, List, ◌∷◌, length, set, sym, ap, refl, subst, ◌∙◌, inr, ⊎_elim, sum_by, arith}
 use Rattle.std.proofs.Math.Nat.{mod-eq_of_lt}
 use mathlib.Core.Option.{some, none}
 use lib.ListN.{get_elem?}
 use native.Mathlib.Decide.{ℕ_discrete, dec_lt}
-use Rattle.atomic_table.specs.Table.{State, Me, Act, step, stepped, gives, rest, put_back, carried_after, Valid, Allows}
+use Rattle.atomic_table.specs.Table.{State, Me, step, gives, rest, put_back, Allows}
 use Rattle.atomic_table.proofs.Lists.{set_here, set_else}
 use Rattle.std.proofs.lemmas.List.{length-set, length-append}
 use Rattle.lq_rule.proofs.Totals.{sum_by_set_at, one_of_sum}
 use Rattle.lq_claims.specs.declared.view.Round.{Round}
 use Rattle.lq_claims.specs.declared.view.View.{View}
 use Rattle.lq_claims.specs.View.{times, claimed, spent}
-use Rattle.lq_claims.specs.Claims.{next_number, back_count, holders, returners, IsHome, IsRight, AreCounted, AreClaimed, HasSlots, IsKept}
+use Rattle.lq_claims.specs.Claims.{next_number, back_count, holders, returners, IsHome, IsRight, IsKept}
 use Rattle.lq_claims.specs.Steps.{given_back, GivesBack}
 use Rattle.lq_claims.specs.Laws.{Fits}
 use Rattle.lq_claims.proofs.Counts.{views_set, times_same, times_other, sum_by_both}

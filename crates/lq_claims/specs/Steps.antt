@@ -1,5 +1,5 @@
 -- What each kind of step does to the one view, and what it tells (docs/THREADS.md, "Claims").
-use Rattle.std.specs.Prelude.{◌≡◌, ℕ, ◌+◌, ◌-◌, ◌<◌, ◌≤◌, Bool, true, false, ◌||◌, nat_lt, List, [], ◌∷◌, ◌++◌, length}
+use Rattle.std.specs.Prelude.{◌≡◌, ℕ, ◌+◌, ◌-◌, ◌≤◌, Bool, true, false, ◌||◌, nat_lt, List, [], ◌∷◌, ◌++◌, length}
 use Rattle.atomic_table.specs.Table.{Step, Me, rest}
 use Rattle.lq_claims.specs.declared.view.View.{View}
 use Rattle.lq_claims.specs.View.{claimed}

@@ -1,5 +1,5 @@
 -- What a seat knows of the claims (docs/THREADS.md, "Claims").
-use Rattle.std.specs.Prelude.{ℕ, ◌+◌, ◌==◌, false, List, [], ◌++◌, count_by}
+use Rattle.std.specs.Prelude.{ℕ, ◌==◌, false, List, [], ◌++◌, count_by}
 use Rattle.lq_claims.specs.declared.view.View.{View}
 
 -- how often a number stands in a list

@@ -1,10 +1,9 @@
 -- What keeps the rule of a deque.
-use Rattle.std.proofs.Common.{◌≡◌, ◌≢◌, ◌⊎◌, ℕ, ◌+◌, ◌<◌, ◌≤◌, List, [], ◌∷◌, ◌++◌, length, set, sym, ap, refl, subst, ◌∙◌, inl, inr, ⊎_elim, sum_by, arith}
+use Rattle.std.proofs.Common.{◌≡◌, ◌≢◌, ℕ, List, [], length, sym, ap, refl, ◌∙◌, ⊎_elim, sum_by, arith}
 use mathlib.Core.Option.{some}
 use lib.ListN.{get_elem?}
 use Rattle.std.proofs.lemmas.List.{nil_from_length}
 use Rattle.lq_rule.proofs.Totals.{two_of_sum}
-use Rattle.lq_claims.specs.View.{times}
 use Rattle.lq_claims.proofs.Counts.{sum_of_one}
 use Rattle.lq_steal.specs.declared.view.View.{View}
 use Rattle.lq_steal.specs.View.{all_stakes, spent}

@@ -1,12 +1,12 @@
 -- What the rule of a deque means.
-use Rattle.std.proofs.Common.{◌≡◌, ◌≢◌, ℕ, ◌+◌, ◌<◌, ◌≤◌, List, [], map, sym, ap, refl, ◌∙◌, sum_by, arith}
+use Rattle.std.proofs.Common.{◌≡◌, ◌≢◌, ℕ, ◌<◌, List, [], map, ap, refl, arith}
 use mathlib.Core.Option.{some}
 use lib.ListN.{get_elem?}
 use Rattle.crossbeam_deque.specs.Tasks.{Finds, Learns}
-use Rattle.lq_rule.proofs.Totals.{one_of_sum, two_of_sum}
+use Rattle.lq_rule.proofs.Totals.{two_of_sum}
 use Rattle.lq_claims.specs.View.{times}
 use Rattle.lq_steal.specs.declared.view.View.{View}
-use Rattle.lq_steal.specs.Handed.{takers, IsHanded}
+use Rattle.lq_steal.specs.Handed.{IsHanded}
 use Rattle.lq_steal.specs.Steps.{KnowsAll, FoundEmpty}
 use Rattle.lq_steal.proofs.Ascending.{once_each}
 use Rattle.lq_steal.proofs.Kept.{whole_of, has_put}

@@ -1,5 +1,5 @@
 -- Each kind of step keeps the rule of a deque.
-use Rattle.std.proofs.Common.{◌≡◌, ◌≢◌, ◌⊎◌, ℕ, zero, suc, ◌+◌, ◌-◌, ◌%◌, ◌<◌, ◌≤◌, List, [], ◌∷◌, ◌++◌, map, length, set, sym, ap, refl, subst, ◌∙◌, inl, inr, ⊎_elim, sum_by, arith}
+use Rattle.std.proofs.Common.{◌≡◌, ◌≢◌, ◌⊎◌, ℕ, zero, suc, ◌+◌, ◌%◌, ◌<◌, ◌≤◌, List, [], ◌∷◌, ◌++◌, map, length, set, sym, ap, refl, subst, ◌∙◌, inl, inr, ⊎_elim, arith}
 use Rattle.std.specs.List.{AllByRecursion}
 use mathlib.Core.Option.{some, some-injective, some-ne-none}
 use lib.ListN.{get_elem?}
@@ -12,7 +12,7 @@ use Rattle.lq_claims.specs.View.{times}
 use Rattle.lq_claims.proofs.Counts.{times_append, views_set, split_total, join_total}
 use Rattle.lq_steal.specs.declared.view.View.{View}
 use Rattle.lq_steal.specs.View.{all_stakes, first_view, spent}
-use Rattle.lq_steal.specs.Handed.{Ascends, AreDealt, takers, HasStakes, WerePut, IsHanded}
+use Rattle.lq_steal.specs.Handed.{Ascends, IsHanded}
 use Rattle.lq_steal.specs.Steps.{Pushed, Taken, kept_part, given_part, joined_view}
 use Rattle.lq_steal.proofs.Ascending.{all_push, all_map, all_at, all_from, ascends_push}
 use Rattle.lq_steal.proofs.Kept.{alone_with, has_put, moved}

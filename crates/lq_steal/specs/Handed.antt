@@ -1,5 +1,5 @@
 -- The rule of one deque (docs/THREADS.md, "Stealing"). Pushes, pops, steals, splits and joins are to keep it (specs/Steps.antt).
-use Rattle.std.specs.Prelude.{◌≡◌, ◌⊎◌, ⊤, ℕ, ◌+◌, ◌%◌, ◌<◌, ◌≤◌, List, [], ◌∷◌, map, length, sum_by}
+use Rattle.std.specs.Prelude.{◌≡◌, ◌⊎◌, ⊤, ℕ, ◌+◌, ◌%◌, ◌<◌, List, [], ◌∷◌, map, length, sum_by}
 use Rattle.std.specs.List.{AllByRecursion}
 use mathlib.Core.Option.{some}
 use lib.ListN.{get_elem?}

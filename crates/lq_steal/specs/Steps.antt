@@ -1,5 +1,5 @@
 -- What each kind of step does to the one view, and what it tells (docs/THREADS.md, "Stealing").
-use Rattle.std.specs.Prelude.{◌≡◌, ℕ, ◌+◌, ◌-◌, List, [], ◌∷◌, ◌++◌, map}
+use Rattle.std.specs.Prelude.{◌≡◌, ℕ, ◌+◌, ◌-◌, List, [], ◌++◌, map}
 use Rattle.std.specs.List.{AllByRecursion}
 use Rattle.lq_claims.specs.View.{times}
 use Rattle.lq_steal.specs.declared.view.View.{View}

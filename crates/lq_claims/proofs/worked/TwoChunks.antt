@@ -1,5 +1,5 @@
 -- Two workers and two chunks: what each step does to a view, and states that the rule refuses.
-use Rattle.std.proofs.Common.{◌≡◌, ℕ, ◌<◌, Bool, true, false, true≢false, List, [], ◌∷◌, sym, ap, refl, ⊎_elim, arith}
+use Rattle.std.proofs.Common.{◌≡◌, ℕ, Bool, true, false, true≢false, List, [], ◌∷◌, sym, ap, refl, ⊎_elim, arith}
 use mathlib.Core.Option.{Option, some, none, some-injective, some-ne-none}
 use Rattle.atomic_table.specs.Table.{State, step}
 use Rattle.lq_claims.specs.declared.view.Round.{Round}

@@ -1,8 +1,8 @@
 -- Two deques, of which this one is dealt the chunks 1, 3 and 5: what each step does to a view, and deques that the rule refuses.
-use Rattle.std.proofs.Common.{◌≡◌, ◌⊎◌, ℕ, ◌+◌, ◌<◌, List, [], ◌∷◌, length, sym, ap, refl, subst, ⊎_elim, arith}
+use Rattle.std.proofs.Common.{◌≡◌, ℕ, List, [], ◌∷◌, length, sym, ap, refl, subst, ⊎_elim, arith}
 use Rattle.lq_claims.specs.View.{times}
 use Rattle.lq_steal.specs.declared.view.View.{View}
-use Rattle.lq_steal.specs.View.{first_view, spent}
+use Rattle.lq_steal.specs.View.{first_view}
 use Rattle.lq_steal.specs.Handed.{AreDealt, IsHanded}
 use Rattle.lq_steal.specs.Steps.{Pushed, Taken, kept_part, given_part, joined_view}
 
