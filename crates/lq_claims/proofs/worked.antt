@@ -1,0 +1,2 @@
+-- Worked rounds, and states that the rule refuses.
+pub mod TwoChunks

@@ -1,0 +1,4 @@
+pub mod View
+pub mod Claims
+pub mod Steps
+pub mod Laws

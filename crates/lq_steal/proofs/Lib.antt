@@ -1,0 +1,5 @@
+pub mod Ascending
+pub mod Kept
+pub mod Moves
+pub mod Meaning
+pub mod worked

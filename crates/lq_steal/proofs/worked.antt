@@ -1,0 +1,2 @@
+-- A worked deque, and deques that the rule refuses.
+pub mod ThreeChunks

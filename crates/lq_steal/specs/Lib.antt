@@ -1,0 +1,4 @@
+pub mod View
+pub mod Handed
+pub mod Steps
+pub mod Laws
