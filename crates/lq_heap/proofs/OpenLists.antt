@@ -55,11 +55,6 @@ put_found o l at over place test =
 pub place_within : (class at : ℕ) (l : List Opened) → at ≡ before class l → at ≤ length l
 place_within class at l is = let near = prefix_len-le-length (λ (o : Opened). ltb o.class class) l in omega (arith, near, is)
 
--- a record that is there is within
-pub is_within : (class at : ℕ) (l : List Opened) → true ≡ is_of class (slice_get l at) → at < length l
-is_within class at l test =
-    elim (slice_get_cases l at).1 [ inl h ↦ h.1 | inr h ↦ absurd (let no : true ≡ false = test ∙ ap (is_of class) h.1 in cc) ]
-
 -- ---- a field
 
 -- where the record of a class stands, or the end
