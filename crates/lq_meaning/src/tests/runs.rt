@@ -89,25 +89,41 @@ fn traps(end: &Option<End>, trap: TrapKind, line: u32, price: u64) -> bool {
     }
 }
 
+// Whether a run of `main` without parameters is done at this cost, and writes this.
+fn prints(
+    alloc: Global,
+    body: Items<PStmt>,
+    fuel: u64,
+    price: u64,
+    text: &[u8],
+) -> Result<bool, AllocError> {
+    let mut out = MemSink::new(alloc, Vec::new(alloc));
+    let end = end_of(alloc, body, fuel, &mut out)?;
+    Ok(is_done(&end, price) && out.written() == text)
+}
+
 #[test]
 fn a_run_prints_a_line_a_number(rt: HostRuntime) -> Result<(), Fail> {
-    let alloc = rt.alloc();
-    let mut out = MemSink::new(alloc, Vec::new(alloc));
-    let end = end_of(alloc, only(alloc, at(1, print(7)))?, 9, &mut out)?;
-    assert!(rt; is_done(&end, 1));
-    assert!(rt; out.written() == "7\n".as_bytes());
+    let body = only(rt.alloc(), at(1, print(7)))?;
+    assert!(rt; prints(rt.alloc(), body, 9, 1, b"7\n")?);
     Ok(())
 }
 
 #[test]
-fn a_trap_and_a_stray_have_the_place_of_their_statement(rt: HostRuntime) -> Result<(), Fail> {
+fn a_trap_has_the_place_of_its_statement(rt: HostRuntime) -> Result<(), Fail> {
     let alloc = rt.alloc();
     let mut out = MemSink::new(alloc, Vec::new(alloc));
     let body = only(alloc, at(2, divide_by_zero(alloc)?))?;
     let end = end_of(alloc, body, 9, &mut out)?;
     assert!(rt; traps(&end, TrapKind::Zero, 2, 0));
+    Ok(())
+}
 
-    // s1 is null
+// s0 = s1[0]; where s1 is null
+#[test]
+fn a_stray_has_the_place_of_its_statement(rt: HostRuntime) -> Result<(), Fail> {
+    let alloc = rt.alloc();
+    let mut out = MemSink::new(alloc, Vec::new(alloc));
     let load = PKind::Load(0, 1, PExpr::Num(0), 0);
     let end = end_of(alloc, only(alloc, at(3, load))?, 9, &mut out)?;
     assert!(rt;
@@ -129,17 +145,22 @@ fn two_prints(alloc: Global) -> Result<Items<PStmt>, AllocError> {
 }
 
 #[test]
-fn the_fuel_and_a_failing_sink_end_a_run(rt: HostRuntime) -> Result<(), Fail> {
+fn the_fuel_ends_a_run(rt: HostRuntime) -> Result<(), Fail> {
     let alloc = rt.alloc();
     let mut out = MemSink::new(alloc, Vec::new(alloc));
     let end = end_of(alloc, two_prints(alloc)?, 1, &mut out)?;
     assert!(rt; matches!(end, Some(End::Fuel)));
-    assert!(rt; out.written() == "1\n".as_bytes());
+    assert!(rt; out.written() == b"1\n".as_slice());
+    Ok(())
+}
 
-    let mut fails = MemSink::new(alloc, vec![in alloc; (2, 1)]?);
-    let end = end_of(alloc, two_prints(alloc)?, 9, &mut fails)?;
+#[test]
+fn a_failing_sink_ends_a_run(rt: HostRuntime) -> Result<(), Fail> {
+    let alloc = rt.alloc();
+    let mut out = MemSink::new(alloc, vec![in alloc; (2, 1)]?);
+    let end = end_of(alloc, two_prints(alloc)?, 9, &mut out)?;
     assert!(rt; matches!(end, Some(End::SinkFault)));
-    assert!(rt; fails.written() == "1\n2".as_bytes());
+    assert!(rt; out.written() == b"1\n2".as_slice());
     Ok(())
 }
 
@@ -152,48 +173,57 @@ fn block(alloc: Global, statement: PStmt) -> Result<Branch, AllocError> {
 }
 
 // cobegin { { s0 = 1 / 0; } { print(5); } { s0 = 1 / 0; } } print(6);
-#[test]
-fn the_first_trap_counts_and_all_branches_run(rt: HostRuntime) -> Result<(), Fail> {
-    let alloc = rt.alloc();
+fn two_traps(alloc: Global) -> Result<Items<PStmt>, AllocError> {
     let mut blocks = Items::new(alloc);
     blocks.push(block(alloc, at(2, divide_by_zero(alloc)?))?)?;
     blocks.push(block(alloc, at(3, print(5)))?)?;
     blocks.push(block(alloc, at(4, divide_by_zero(alloc)?))?)?;
     let mut body = only(alloc, at(1, PKind::Cobegin(blocks)))?;
     body.push(at(5, print(6)))?;
+    Ok(body)
+}
+
+#[test]
+fn the_first_trap_counts_and_all_branches_run(rt: HostRuntime) -> Result<(), Fail> {
+    let alloc = rt.alloc();
     let mut out = MemSink::new(alloc, Vec::new(alloc));
-    let end = end_of(alloc, body, 9, &mut out)?;
+    let end = end_of(alloc, two_traps(alloc)?, 9, &mut out)?;
     assert!(rt; traps(&end, TrapKind::Zero, 2, 1));
-    assert!(rt; out.written() == "5\n".as_bytes());
+    assert!(rt; out.written() == b"5\n".as_slice());
     Ok(())
 }
 
 // foreach (s0 = 0; s0 < 1000; s0 += 1) { s1 = s0; } print(s1);
-#[test]
-fn each_iteration_of_a_foreach_runs(rt: HostRuntime) -> Result<(), Fail> {
-    let alloc = rt.alloc();
+fn thousand(alloc: Global) -> Result<Items<PStmt>, AllocError> {
     let each = block(alloc, at(2, PKind::Set(1, PExpr::Slot(0))))?;
     let foreach = PKind::Foreach(0, PExpr::Num(0), PExpr::Num(1000), 1, each);
     let mut body = only(alloc, at(1, foreach))?;
     body.push(at(3, PKind::Print(PExpr::Slot(1))))?;
-    let mut out = MemSink::new(alloc, Vec::new(alloc));
-    let end = end_of(alloc, body, 2000, &mut out)?;
-    assert!(rt; is_done(&end, 1001));
-    assert!(rt; out.written() == "0\n".as_bytes());
+    Ok(body)
+}
+
+#[test]
+fn each_iteration_of_a_foreach_runs(rt: HostRuntime) -> Result<(), Fail> {
+    let body = thousand(rt.alloc())?;
+    assert!(rt; prints(rt.alloc(), body, 2000, 1001, b"0\n")?);
     Ok(())
 }
 
 // main(s0, s1) { s2 = s0[1]; print(s2); }
+fn second_number(alloc: Global) -> Result<PProgram, AllocError> {
+    let mut body = only(alloc, at(1, PKind::Load(2, 0, PExpr::Num(1), 0)))?;
+    body.push(at(2, PKind::Print(PExpr::Slot(2))))?;
+    program(alloc, 2, body)
+}
+
 #[test]
 fn main_takes_the_input_where_it_fits(rt: HostRuntime) -> Result<(), Fail> {
     let alloc = rt.alloc();
-    let mut body = only(alloc, at(1, PKind::Load(2, 0, PExpr::Num(1), 0)))?;
-    body.push(at(2, PKind::Print(PExpr::Slot(2))))?;
-    let p = program(alloc, 2, body)?;
+    let p = second_number(alloc)?;
     let mut out = MemSink::new(alloc, Vec::new(alloc));
     let end = run_any(alloc, &p, &[3, -4], 9, 2, &mut out);
     assert!(rt; is_done(&end, 2));
-    assert!(rt; out.written() == "-4\n".as_bytes());
+    assert!(rt; out.written() == b"-4\n".as_slice());
     let end = run_any(alloc, &p, &[3, -4], 9, 1, &mut out);
     assert!(rt; traps(&end, TrapKind::Words, 1, 0));
     Ok(())
