@@ -11,14 +11,17 @@ use Rattle.lq_tree.specs.declared.plain.PStmt.{PStmt}
 use Rattle.lq_tree.specs.PlainWalk.{statements, within_row}
 use Rattle.lq_templates.specs.declared.template.Named.{Named}
 use Rattle.lq_templates.specs.declared.template.Template.{Template}
+use Rattle.lq_tree.specs.PlainScopes.{is_among}
+use Rattle.lq_templates.specs.declared.template.TemplateKind.TheVariants.{Pre, Join, Loop}
 use Rattle.lq_templates.specs.Accesses.{Access}
+use Rattle.lq_templates.specs.Names.{local_names}
 use Rattle.lq_templates.specs.Classes.{ClassOf, Variable, variables, first_variables}
 use Rattle.lq_templates.specs.Spots.{Spot, join, loop, inner_scope, Walk, params_of, spots}
-use Rattle.lq_templates.specs.Templates.{template, effect_of, Env, scope_accesses, record_templates, effect_templates, spot_templates, count_scopes, post_template, border_templates, function_templates, functions_templates, all_templates}
+use Rattle.lq_templates.specs.Templates.{template, effect_of, Env, scope_accesses, record_templates, effect_templates, spot_templates, count_scopes, param_names, post_template, border_templates, function_templates, functions_templates, all_templates}
 use Rattle.lq_ground.specs.Ground.{Ground, in_branch, function_scope}
 use Rattle.lq_ground.specs.Numbers.{one_for, count_effects}
 use Rattle.lq_ground.specs.Standing.{IsGround, Follows}
-use Rattle.lq_ground.proofs.ScopeLemmas.{count-append}
+use Rattle.lq_ground.proofs.ScopeLemmas.{count-append, scope_first, scope_later}
 
 -- ---- lists
 
@@ -28,8 +31,10 @@ effects-append k (t ∷ xs) ys = let more = effects-append k xs ys in omega (ari
 
 pub spots-append : (env : Env) (s : ℕ) (xs ys : List Spot) → spot_templates env s (xs ++ ys) ≡ spot_templates env s xs ++ spot_templates env (s + count_scopes xs) ys
 spots-append env s [] ys = ap (λ n. spot_templates env n ys) (omega arith)
-spots-append env s (join changed scope ∷ xs) ys = ap (λ (ts : List Template). _ ∷ ts) (spots-append env s xs ys)
-spots-append env s (loop changed scope ∷ xs) ys = ap (λ (ts : List Template). _ ∷ ts) (spots-append env s xs ys)
+spots-append env s (join changed scope ∷ xs) ys =
+    ap (λ (ts : List Template). template Join (local_names env.func.slots (is_among changed) (is_among scope)) ∷ ts) (spots-append env s xs ys)
+spots-append env s (loop changed scope ∷ xs) ys =
+    ap (λ (ts : List Template). template Loop (local_names env.func.slots (is_among changed) (is_among scope)) ∷ ts) (spots-append env s xs ys)
 spots-append env s (inner_scope at body scope ∷ xs) ys =
     let own = effect_templates env s at body scope in
     ap (λ (ts : List Template). own ++ ts) (spots-append env (suc s) xs ys ∙ ap (λ n. spot_templates env (suc s) xs ++ spot_templates env n ys) (omega arith))
@@ -66,8 +71,8 @@ other_effects k env s at body scope apart = other_scope k s at _ (scope_accesses
 -- those before
 low_spots : (k : ℕ) (env : Env) (s : ℕ) (list : List Spot) → k < s → count_effects k (spot_templates env s list) ≡ 0
 low_spots k env s [] low = refl
-low_spots k env s (join changed scope ∷ list) low = low_spots k env s list low
-low_spots k env s (loop changed scope ∷ list) low = low_spots k env s list low
+low_spots k env s (join changed scope ∷ list) low = let more = low_spots k env s list low in omega (arith, more)
+low_spots k env s (loop changed scope ∷ list) low = let more = low_spots k env s list low in omega (arith, more)
 low_spots k env s (inner_scope at body scope ∷ list) low =
     let both = effects-append k (effect_templates env s at body scope) (spot_templates env (suc s) list) in
     let own = other_effects k env s at body scope (omega (arith, low)) in
@@ -76,8 +81,8 @@ low_spots k env s (inner_scope at body scope ∷ list) low =
 -- and behind
 high_spots : (k : ℕ) (env : Env) (s : ℕ) (list : List Spot) → s + count_scopes list ≤ k → count_effects k (spot_templates env s list) ≡ 0
 high_spots k env s [] high = refl
-high_spots k env s (join changed scope ∷ list) high = high_spots k env s list high
-high_spots k env s (loop changed scope ∷ list) high = high_spots k env s list high
+high_spots k env s (join changed scope ∷ list) high = let more = high_spots k env s list high in omega (arith, more)
+high_spots k env s (loop changed scope ∷ list) high = let more = high_spots k env s list high in omega (arith, more)
 high_spots k env s (inner_scope at body scope ∷ list) high =
     let both = effects-append k (effect_templates env s at body scope) (spot_templates env (suc s) list) in
     let own = other_effects k env s at body scope (omega (arith, high)) in
@@ -104,10 +109,11 @@ no_post k env None = refl
 no_post k env (Some type) = refl
 
 no_borders : (k : ℕ) (env : Env) → count_effects k (border_templates env) ≡ 0
-no_borders k env = elim (env.number == env.program.main) as (λ b. count_effects k (cond b [] (_ ∷ post_template env env.func.result)) ≡ 0) [
-  | true ↦ refl
-  | false ↦ no_post k env env.func.result
-]
+no_borders k env =
+    elim (env.number == env.program.main) as (λ b. count_effects k (cond b [] (template (Pre env.number) (param_names env.func) ∷ post_template env env.func.result)) ≡ 0) [
+      | true ↦ refl
+      | false ↦ (let none = no_post k env env.func.result in omega (arith, none))
+    ]
 
 function_effects : (k : ℕ) (env : Env) (s : ℕ) → s ≢ k → count_effects k (function_templates env s) ≡ count_effects k (spot_templates env (suc s) (spots env.func))
 function_effects k env s apart =
@@ -121,7 +127,7 @@ function_effects k env s apart =
 
 no_records : (k : ℕ) (p : PProgram) (class : ℕ) (list : List Variable) → count_effects k (record_templates p class list) ≡ 0
 no_records k p class [] = refl
-no_records k p class (v ∷ list) = no_records k p (suc class) list
+no_records k p class (v ∷ list) = let more = no_records k p (suc class) list in omega (arith, more)
 
 module _ (p : PProgram) (class_of : ClassOf) (by : ℕ → Access → Bool) where
   abbrev env_of : (number : ℕ) → PFunc → Env
@@ -145,26 +151,28 @@ module _ (p : PProgram) (class_of : ClassOf) (by : ℕ → Access → Bool) wher
   function_here number s zero n k (g ∷ funcs) f before at body scope later there text e is =
       let same : g ≡ f = cc in
       let number_is : n ≡ number = omega (arith, e) in
-      let k_is : suc s + count_scopes before ≡ k = omega (arith, is) in
+      let zeroth = scope_first (g ∷ funcs) in
+      let k_is : suc s + count_scopes before ≡ k = omega (arith, is, zeroth) in
       let env = env_of number g in
       let text_is : before ++ inner_scope at body scope ∷ later ≡ spots g = text ∙ ap spots (sym same) in
       let both = effects-append k (function_templates env s) (functions_templates p class_of by (suc number) (suc (s + count_scopes (spots g))) funcs) in
-      let own = function_effects k env s (omega (arith, is)) in
+      let own = function_effects k env s (omega (arith, k_is)) in
       let here : count_effects k (spot_templates env (suc s) (spots g)) ≡ length (effect_templates env k at body scope) =
-          ap (λ (list : List Spot). count_effects k (spot_templates env (suc s) list)) (sym text_is)
-          ∙ subst (λ j. count_effects j (spot_templates env (suc s) (before ++ inner_scope at body scope ∷ later)) ≡ length (effect_templates env j at body scope)) k_is
-          (spot_here env (suc s) before at body scope later) in
+      ap (λ (list : List Spot). count_effects k (spot_templates env (suc s) list)) (sym text_is)
+      ∙ subst (λ j. count_effects j (spot_templates env (suc s) (before ++ inner_scope at body scope ∷ later)) ≡ length (effect_templates env j at body scope)) k_is
+      (spot_here env (suc s) before at body scope later) in
       let size = ap count_scopes (sym text_is) ∙ count-append before (inner_scope at body scope ∷ later) in
-      let more = low_functions k (suc number) (suc (s + count_scopes (spots g))) funcs (omega (arith, is, size)) in
+      let more = low_functions k (suc number) (suc (s + count_scopes (spots g))) funcs (omega (arith, k_is, size)) in
       let sum : count_effects k (functions_templates p class_of by number s (g ∷ funcs)) ≡ length (effect_templates env k at body scope) = omega (arith, both, own, here, more) in
       sum ∙ ap₂ (λ i (h : PFunc). length (effect_templates (env_of i h) k at body scope)) (sym number_is) same
   function_here number s (suc m) n k (g ∷ funcs) f before at body scope later there text e is =
       let env = env_of number g in
       let next = suc (s + count_scopes (spots g)) in
+      let past = scope_later g funcs m in
       let both = effects-append k (function_templates env s) (functions_templates p class_of by (suc number) next funcs) in
-      let own = function_effects k env s (omega (arith, is)) in
-      let inside = high_spots k env (suc s) (spots g) (omega (arith, is)) in
-      let more = function_here (suc number) next m n k funcs f before at body scope later there text (omega (arith, e)) (omega (arith, is)) in
+      let own = function_effects k env s (omega (arith, is, past)) in
+      let inside = high_spots k env (suc s) (spots g) (omega (arith, is, past)) in
+      let more = function_here (suc number) next m n k funcs f before at body scope later there text (omega (arith, e)) (omega (arith, is, past)) in
       omega (arith, both, own, inside, more)
 
 -- a scope inside the text of the function of the ground

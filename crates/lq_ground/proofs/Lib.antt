@@ -7,3 +7,6 @@ pub mod LocalLemmas
 pub mod Standings
 pub mod NumberLemmas
 pub mod ListLemmas
+pub mod LiveSpots
+pub mod WalksOn
+pub mod Following

@@ -2,7 +2,7 @@
 use Rattle.std.proofs.Common.{◌≡◌, ℕ, zero, suc, ◌+◌, ◌<◌, ◌≤◌, ◌==◌, Bool, true, false, cond, not, ◌&&◌, ◌||◌, List, [], ◌∷◌, ◌++◌, length, take, filter, Option, None, Some, inl, inr, refl, ap, ap₂, sym, subst, ◌∙◌, arith, append-nil, append_assoc}
 use Rattle.std.specs.List.{list_any}
 use Rattle.std.proofs.Math.ListN.{length-append}
-use Rattle.std.proofs.lemmas.Bool.{cases_Bool}
+use Rattle.std.proofs.lemmas.Bool.{ne_eqb}
 use Rattle.lq_tree.specs.declared.place.Place.{Place}
 use Rattle.lq_tree.specs.declared.plain.PKind.{PKind, Set, Load, Store, Calloc, Call, If', While', Cobegin', Foreach, Print, Return, Row_of-Branch, end_of-Branch, more_of-Branch}
 use Rattle.lq_tree.specs.declared.plain.PStmt.{PStmt}
@@ -56,7 +56,7 @@ pub assigns_new : (g : Ground) (old new : Position) (w : Walk) (slots : List ℕ
     → StandsAt g old w → StandsAt g new (assign slots w)
 assigns_new g old new w slots slot one unknown marks scope scopes templates stands =
     let fresh : filter (λ n. not (is_among w.assigned n)) slots ≡ slot ∷ [] =
-        ap (filter (λ n. not (is_among w.assigned n))) one ∙ ap (λ b. cond (not b) (slot ∷ []) []) (sym (stands.assigned slot) ∙ unknown) in
+    ap (filter (λ n. not (is_among w.assigned n))) one ∙ ap (λ b. cond (not b) (slot ∷ []) []) (sym (stands.assigned slot) ∙ unknown) in
     record {
       assigned = λ n. marks n ∙ ap (λ b. b || slot == n) (stands.assigned n) ∙ sym (among-push w.assigned slot n) ∙ ap (λ (more : List ℕ). is_among (w.assigned ++ more) n) (sym fresh);
       scope = scope ∙ ap₂ (λ (xs ys : List ℕ). xs ++ ys) stands.scope (sym fresh);
@@ -111,28 +111,31 @@ enters_first g old new w kind spots assigned scope scopes templates count stands
     }
 
 -- how many spots a statement is
-length-where : (spot : List ℕ → Spot) (changed : List ℕ) (b : Bool) → (b ≡ true → changed ≡ []) → (b ≡ false → changed ≡ [] → ⊥) → cond (not b) 1 0 ≡ length (where_changed spot changed)
-length-where spot [] b empty some = elim b as (λ c. b ≡ c → cond (not c) 1 0 ≡ 0) [ true ↦ (λ is. refl) | false ↦ (λ is. absurd (some is refl)) ] refl
-length-where spot (n ∷ changed) b empty some = elim b as (λ c. b ≡ c → cond (not c) 1 0 ≡ 1) [ true ↦ (λ is. absurd (let e = empty is in cc)) | false ↦ (λ is. refl) ] refl
+length-where : (spot : List ℕ → Spot) (slots : List ℕ) → cond (not (length slots == 0)) 1 0 ≡ length (where_changed spot slots)
+length-where spot [] = refl
+length-where spot (n ∷ slots) = let some : (suc (length slots) == 0) ≡ false = ne_eqb (suc (length slots)) 0 (omega arith) in ap (λ (b : Bool). cond (not b) 1 0) some
 
-pub spots_of : (scope : List ℕ) (kind : PKind) (b : Bool) → (b ≡ true → changed scope kind ≡ []) → (b ≡ false → changed scope kind ≡ [] → ⊥)
-    → cond (has_spot kind && not b) 1 0 ≡ length (spot_at scope kind)
-spots_of scope (If' e n body m other) b empty some =
-    let changes = changed scope (If' e n body m other) in
-    elim (list_lives body && list_lives other) as (λ lives. cond (lives && not b) 1 0 ≡ length (cond lives (where_changed (λ c. join c scope) changes) [])) [
-      | true ↦ length-where (λ c. join c scope) changes b empty some
+pub length-spot_at : (scope : List ℕ) (kind : PKind) → cond (has_spot kind && not (length (changed scope kind) == 0)) 1 0 ≡ length (spot_at scope kind)
+length-spot_at scope (If' e n body m other) =
+    let slots = changed scope (If' e n body m other) in
+    elim (list_lives body && list_lives other) as (λ lives. cond (lives && not (length slots == 0)) 1 0 ≡ length (cond lives (where_changed (λ c. join c scope) slots) [])) [
+      | true ↦ length-where (λ c. join c scope) slots
       | false ↦ refl
     ]
-spots_of scope (While' n head e m body) b empty some = length-where (λ c. loop c scope) (changed scope (While' n head e m body)) b empty some
-spots_of scope (Set to e) b empty some = refl
-spots_of scope (Load to base index field) b empty some = refl
-spots_of scope (Store base index field e) b empty some = refl
-spots_of scope (Calloc to size type) b empty some = refl
-spots_of scope (Call to function args) b empty some = refl
-spots_of scope (Cobegin' n blocks) b empty some = refl
-spots_of scope (Foreach index low high step branch) b empty some = refl
-spots_of scope (Print e) b empty some = refl
-spots_of scope (Return e) b empty some = refl
+length-spot_at scope (While' n head e m body) = length-where (λ c. loop c scope) (changed scope (While' n head e m body))
+length-spot_at scope (Set to e) = refl
+length-spot_at scope (Load to base index field) = refl
+length-spot_at scope (Store base index field e) = refl
+length-spot_at scope (Calloc to size type) = refl
+length-spot_at scope (Call to function args) = refl
+length-spot_at scope (Cobegin' n blocks) = refl
+length-spot_at scope (Foreach index low high step branch) = refl
+length-spot_at scope (Print e) = refl
+length-spot_at scope (Return e) = refl
+
+pub counts_spots : (scope slots : List ℕ) (kind : PKind) (spot empty : Bool) (count : ℕ) → spot ≡ has_spot kind → empty ≡ (length slots == 0) → slots ≡ changed scope kind → count ≡ cond (spot && not empty) 1 0 → count ≡ length (spot_at scope kind)
+counts_spots scope slots kind spot empty count is_spot is_empty are counted =
+    counted ∙ ap₂ (λ a b. cond (a && not b) 1 0) is_spot (is_empty ∙ ap (λ (xs : List ℕ). length xs == 0) are) ∙ length-spot_at scope kind
 
 -- ---- behind a list
 

@@ -1,7 +1,7 @@
 //! The classes of the pointers in the fields of classes.
 
 ghost use Rattle.std.specs.Prelude.{◌≡◌, ℕ, [], ◌∷◌, ◌++◌, slice_get, IfOk, OnOk};
-ghost use Rattle.std.specs.Option.{option_copied};
+ghost use Rattle.std.specs.List.{flat_map};
 ghost use Rattle.lq_tree.specs.Formed.{IsFormed};
 ghost use Rattle.lq_templates.specs.Classes.{class_in, fields_behind as behind};
 ghost use Rattle.lq_ground.specs.Fields as spec;
@@ -26,6 +26,17 @@ fn note_move(alloc: Global, rows: &mut Items<Table>, each: Move) -> Result<(), A
     note_in(alloc, rows, each.class, each.field, each.moved)
 }
 
+// Notes the classes that go between slots and fields.
+fn note_moves(alloc: Global, moves: &[Move]) -> Result<Items<Table>, AllocError>
+    ensures { IfOk result (λ rows. (class field : ℕ) → noted_in rows class field ≡ slice_get (flat_map (moved_at class field) moves.now) 0) }
+{
+    let mut rows = Items::new(alloc);
+    for each in moves {
+        note_move(alloc, &mut rows, *each)?;
+    }
+    Ok(rows)
+}
+
 // For each class, and in it for each field, the class of the slot that is the first to be loaded from it or stored to it.
 pub(crate) fn field_classes(
     alloc: Global,
@@ -37,11 +48,7 @@ pub(crate) fn field_classes(
         ≡ slice_get (classes_moved (class_in classes.now) class field 0 program.now.funcs) 0) }
 {
     let moves = moves_of(alloc, program, classes)?;
-    let mut rows = Items::new(alloc);
-    for each in moves.as_slice() {
-        note_move(alloc, &mut rows, *each)?;
-    }
-    Ok(rows)
+    note_moves(alloc, moves.as_slice())
 }
 
 // The same base once more.

@@ -14,6 +14,8 @@ mod scopes;
 mod scoping;
 mod spot;
 mod tables;
+#[cfg(test)]
+mod tests;
 
 pub use ground::{Ground, argument_values};
 pub use locals::param_values;

@@ -15,7 +15,7 @@ ghost use Rattle.lq_ground.specs.Standing.{seen, IsGround, StandsAt, Follows, Ch
 
 use crate::ground::Ground;
 use crate::locals::first_marks;
-use crate::scopes::next;
+use crate::scopes::{next, sum};
 use crate::spot::Change;
 use lq_templates::{is_marked, target};
 use lq_tree::{PFunc, PKind};
@@ -110,8 +110,7 @@ impl Position {
         ensures { OnOk result ((g : spec.Ground) (w : Walk) (kind : Kind) → StandsAt g self.old w → Changes g kind w change.now
             → StandsAt g self.new (spec.in_first kind w)) }
     {
-        let templates = self.templates.checked_add(change.spots);
-        self.templates = templates.ok_or(AllocError)?;
+        self.templates = sum(self.templates, change.spots)?;
         Ok(())
     }
 
@@ -138,8 +137,7 @@ impl Position {
     {
         let scope = self.next_scope(ground)?;
         let effects = ground.tables.count_effects(scope);
-        let templates = self.templates.checked_add(effects);
-        self.templates = templates.ok_or(AllocError)?;
+        self.templates = sum(self.templates, effects)?;
         self.scopes = next(self.scopes)?;
         Ok(())
     }
@@ -148,6 +146,6 @@ impl Position {
     pub(crate) fn next_scope(&self, ground: &Ground<'_>) -> Result<u32, AllocError>
         ensures { IfOk result (λ scope. scope ≡ suc (ground.now.scope + self.now.scopes)) }
     {
-        next(ground.scope.checked_add(self.scopes).ok_or(AllocError)?)
+        next(sum(ground.scope, self.scopes)?)
     }
 }

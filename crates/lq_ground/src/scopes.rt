@@ -13,11 +13,18 @@ use lq_tree::{Branch, PKind, PProgram, PStmt};
 use sqlite_items::Items;
 use std::alloc::{AllocError, Global};
 
-// The next number. Where it doesn't fit there is no room for so many.
+// The sum of two numbers. Where it doesn't fit there is no room for so many.
+pub(crate) fn sum(a: u32, b: u32) -> Result<u32, AllocError>
+    ensures { IfOk result (λ sum. sum ≡ a + b) }
+{
+    a.checked_add(b).ok_or(AllocError)
+}
+
+// The next number.
 pub(crate) fn next(number: u32) -> Result<u32, AllocError>
     ensures { IfOk result (λ next. next ≡ number + 1) }
 {
-    number.checked_add(1).ok_or(AllocError)
+    sum(number, 1)
 }
 
 // How many scopes there are behind a statement, of which so many come before it.
@@ -82,7 +89,7 @@ pub(crate) fn scopes_of(alloc: Global, program: &PProgram) -> Result<Items<u32>,
     for function in program.funcs.as_slice() {
         scopes.push(so_far)?;
         let inside = count_list(function.body.as_slice(), 0)?;
-        so_far = next(so_far)?.checked_add(inside).ok_or(AllocError)?;
+        so_far = sum(next(so_far)?, inside)?;
     }
     scopes.push(so_far)?;
     Ok(scopes)

@@ -1,11 +1,11 @@
 //! The template of an If or a While.
 
-ghost use Rattle.std.specs.Prelude.{◌≡◌, ℕ, Bool, filter, length, IfOk, OnOk};
+ghost use Rattle.std.specs.Prelude.{◌≡◌, ℕ, Bool, List, filter, length, IfOk, OnOk};
 ghost use Rattle.std.specs.List.{range_with_len};
 ghost use Rattle.lq_tree.specs.declared.plain.PKind.{PKind as Kind};
 ghost use Rattle.lq_tree.specs.PlainScopes.{is_among};
 ghost use Rattle.lq_templates.specs.Accesses.{Access};
-ghost use Rattle.lq_templates.specs.Spots.{Walk};
+ghost use Rattle.lq_templates.specs.Spots.{Walk, spot_at, changed as changed_slots};
 ghost use Rattle.lq_ground.specs.Ground as spec;
 ghost use Rattle.lq_ground.specs.Standing.{seen, StandsAt, Changes};
 ghost use Rattle.lq_ground.specs.Spots.{has_spot};
@@ -13,7 +13,7 @@ ghost use Rattle.lq_ground.specs.Spots.{has_spot};
 use crate::ground::Ground;
 use crate::locals::values_of;
 use crate::position::Position;
-use crate::scopes::next;
+use crate::scopes::{next, sum};
 use lq_linear::Form;
 use lq_symbolic::{Start, SymState};
 use lq_templates::{Given, is_marked, list_lives, marks_of};
@@ -41,6 +41,14 @@ fn may_be_spot(kind: &PKind) -> bool
         PKind::While(_, _, _) => true,
         _ => false,
     }
+}
+
+// How many templates a statement has itself, where it changes these slots.
+fn count_spots(kind: &PKind, changed: &[u32]) -> u32
+    ensures { (scope : List ℕ) → changed.now ≡ changed_slots scope kind.now → result ≡ length (spot_at scope kind.now) }
+{
+    let is_empty = changed.is_empty();
+    if may_be_spot(kind) & !is_empty { 1 } else { 0 }
 }
 
 // How many slots a function has. Where the number doesn't fit there is no room for so many.
@@ -81,8 +89,7 @@ impl<'a> Ground<'a> {
         let changed = self.tables.changed(alloc, self.number, kind, at.scope())?;
         let count = slot_count(self.func)?;
         let slots = ascending(alloc, count, changed.as_slice())?;
-        let is_spot = may_be_spot(kind) && !changed.is_empty();
-        let spots = if is_spot { 1 } else { 0 };
+        let spots = count_spots(kind, changed.as_slice());
         Ok(Change { slots, spots })
     }
 
@@ -106,7 +113,7 @@ impl<'a> Ground<'a> {
         ensures { IfOk result (λ number. (by : ℕ → Access → Bool) (w : Walk) → StandsAt (seen by self.now) at.now w
             → number ≡ spec.spot_number (seen by self.now) w) }
     {
-        next(self.before.checked_add(at.templates).ok_or(AllocError)?)
+        next(sum(self.before, at.templates)?)
     }
 
     /// The rows of the template of a statement that changes this, at the values of the locals; none where it changes nothing.

@@ -88,33 +88,32 @@ module _ (env : Env) (at : Place) (m : Made) where
   at_block kind body ss scope m1 is same scope_is given =
       ap (λ s. seen_behind s m1) scope_is ∙ ap (behind env) (given ∙ ap (λ (xs : List Stmt). plain_all env xs m) same) ∙ sym (plain_block env at body m) ∙ ap (λ (k : StmtKind). plain env at k m) (sym is)
 
-  pub at_if : (kind : StmtKind) (arms as' : List Arm) (other : Option Stmt) (opens : List Open) (s1 s2 : List (Local ℕ)) (m1 m2 m3 : Made) → kind ≡ If arms other → as' ≡ arms → s1 ≡ env.scope → s2 ≡ s1
-      → ((otherwise : Made → Made) → closed at opens (otherwise m1) ≡ all_arms env at as' otherwise m) → m2 ≡ (maybe (record env { scope = s1 }) other m1).made → m3 ≡ closed at opens m2
-      → seen_behind s2 m3 ≡ plain env at kind m
-  at_if kind arms as' other opens s1 s2 m1 m2 m3 is same s1_is s2_is opened m2_is m3_is =
-      ap (λ s. seen_behind s m3) (s2_is ∙ s1_is)
+  pub at_if : (kind : StmtKind) (arms as' : List Arm) (other : Option Stmt) (opens : List Open) (s1 s2 : List (Local ℕ)) (m1 m2 : Made) → kind ≡ If arms other → as' ≡ arms → s1 ≡ env.scope → s2 ≡ s1
+      → ((otherwise : Made → Made) → closed at opens (otherwise m1) ≡ all_arms env at as' otherwise m) → m2 ≡ closed at opens (maybe (record env { scope = s1 }) other m1).made
+      → seen_behind s2 m2 ≡ plain env at kind m
+  at_if kind arms as' other opens s1 s2 m1 m2 is same s1_is s2_is opened m2_is =
+      ap (λ s. seen_behind s m2) (s2_is ∙ s1_is)
       ∙ ap (behind env)
-      (m3_is ∙ ap (closed at opens) (m2_is ∙ ap (λ s. (maybe (record env { scope = s }) other m1).made) s1_is)
+      (m2_is ∙ ap (λ s. closed at opens (maybe (record env { scope = s }) other m1).made) s1_is
       ∙ opened (λ k. (maybe env other k).made) ∙ ap (λ (xs : List Arm). all_arms env at xs (λ k. (maybe env other k).made) m) same)
       ∙ sym (plain_if env at arms other m) ∙ ap (λ (k : StmtKind). plain env at k m) (sym is)
 
-  pub at_for : (env' : Env) (at' : Place) (kind : StmtKind) (first : Option Stmt) (e : Option Expr) (third : Option Stmt) (body b : Stmt) (s1 s2 s3 : List (Local ℕ)) (m1 m2 m3 m4 m5 m6 m7 : Made) (v : PExpr) (outer head : List PStmt)
-      → kind ≡ For first e third body → b ≡ body → seen_behind s1 m1 ≡ maybe env first m → outer ≡ m1.front → m2 ≡ record { slots = m1.slots; front = [] }
-      → env' ≡ record env { scope = s1 } → at' ≡ at → valued v m3 ≡ condition env' at' e m2.slots → head ≡ m3.front → m4 ≡ record { slots = m3.slots; front = [] }
-      → m5 ≡ (one (record env { scope = s1 }) b m4).made → s2 ≡ s1 → m6 ≡ (maybe (record env { scope = s2 }) third m5).made → s3 ≡ env.scope
-      → m7 ≡ then_stands at (WhileP head v m6.front) (record { slots = m6.slots; front = outer }) → seen_behind s3 m7 ≡ plain env at kind m
-  at_for env' at' kind first e third body b s1 s2 s3 m1 m2 m3 m4 m5 m6 m7 v outer head is same opened outer_is m2_is env_is at_is cond_is head_is m4_is m5_is s2_is m6_is s3_is m7_is =
+  pub at_for : (env' : Env) (at' : Place) (kind : StmtKind) (first : Option Stmt) (e : Option Expr) (third : Option Stmt) (body b : Stmt) (s1 s2 s3 : List (Local ℕ)) (m1 m2 m3 m4 m5 : Made) (v : PExpr) (outer head : List PStmt)
+      → kind ≡ For first e third body → b ≡ body → seen_behind s1 m1 ≡ maybe env first m
+      → env' ≡ record env { scope = s1 } → at' ≡ at → valued v (record { slots = m2.slots; front = head }) ≡ condition env' at' e m1.slots → outer ≡ m1.front → m2 ≡ fresh m2.slots
+      → m3 ≡ (one (record env { scope = s1 }) b m2).made → s2 ≡ s1 → m4 ≡ (maybe (record env { scope = s2 }) third m3).made → s3 ≡ env.scope
+      → m5 ≡ then_stands at (WhileP head v m4.front) (record { slots = m4.slots; front = outer }) → seen_behind s3 m5 ≡ plain env at kind m
+  at_for env' at' kind first e third body b s1 s2 s3 m1 m2 m3 m4 m5 v outer head is same opened env_is at_is cond_is outer_is m2_is m3_is s2_is m4_is s3_is m5_is =
       let inner = record env { scope = s1 } in
-      let last : List PStmt → List PStmt → Made → Behind = λ o h x. behind env (then_stands at (WhileP h v x.front) (record { slots = x.slots; front = o })) in
+      let last : List PStmt → Made → Behind = λ o x. behind env (then_stands at (WhileP head v x.front) (record { slots = x.slots; front = o })) in
       let turn : Valued → Behind = λ c. behind env (looped at c (maybe inner third (one inner body (fresh c.made.slots)).made).made m1) in
-      ap (λ s. seen_behind s m7) s3_is
-      ∙ ap (behind env) m7_is
-      ∙ ap (λ o. last o head m6) outer_is
-      ∙ ap (λ h. last m1.front h m6) head_is
-      ∙ ap (last m1.front m3.front)
-      (m6_is ∙ ap (λ s. (maybe (record env { scope = s }) third m5).made) s2_is
-      ∙ ap (λ (x : Made). (maybe inner third x).made) (m5_is ∙ ap (λ (x : Stmt). (one inner x m4).made) same ∙ ap (λ (x : Made). (one inner body x).made) m4_is))
-      ∙ ap turn (cond_is ∙ ap (λ (x : Env). condition x at' e m2.slots) env_is ∙ ap (λ (p : Place). condition inner p e m2.slots) at_is ∙ ap (λ (x : Made). condition inner at e x.slots) m2_is)
+      ap (λ s. seen_behind s m5) s3_is
+      ∙ ap (behind env) m5_is
+      ∙ ap (λ o. last o m4) outer_is
+      ∙ ap (last m1.front)
+      (m4_is ∙ ap (λ s. (maybe (record env { scope = s }) third m3).made) s2_is
+      ∙ ap (λ (x : Made). (maybe inner third x).made) (m3_is ∙ ap (λ (x : Stmt). (one inner x m2).made) same ∙ ap (λ (x : Made). (one inner body x).made) m2_is))
+      ∙ ap turn (cond_is ∙ ap (λ (x : Env). condition x at' e m1.slots) env_is ∙ ap (λ (p : Place). condition inner p e m1.slots) at_is)
       ∙ ap (turned env at e (λ inner'. maybe inner' third) (λ inner'. one inner' body)) opened
       ∙ sym (plain_for env at first e third body m) ∙ ap (λ (k : StmtKind). plain env at k m) (sym is)
 

@@ -12,7 +12,7 @@ use crate::flatten::{flat_operand, flatten};
 use crate::made::{Made, int_type};
 use crate::operators::is_pure;
 use crate::site::Site;
-use crate::values::{initial, number_operand};
+use crate::values::{condition, initial, number_operand};
 use lq_tree::{Branch, CType, Expr, Items, Name, PExpr, PKind, PStmt, Place, StmtKind};
 use std::alloc::AllocError;
 
@@ -34,16 +34,35 @@ pub fn declare<'a>(
     Ok(to)
 }
 
-/// Ends a loop: in front of it stand the statements that stood there when it began.
-pub fn close_loop(
-    at: Place,
-    outer: Items<PStmt>,
-    head: Items<PStmt>,
-    cond: PExpr,
+/// A loop that is begun: its head, its condition, and what stands in front of it.
+#[derive(Drop)]
+pub struct OpenLoop {
+    pub head: Items<PStmt>,
+    pub cond: PExpr,
+    pub outer: Items<PStmt>,
+}
+
+/// Begins a loop whose condition may be missing; the list of its body is begun.
+pub fn open_loop<'a>(
+    site: Site<'a>,
+    cond: &'a Option<Expr>,
     made: &mut Made,
-) -> Result<(), AllocError>
-    ensures { OnOk result (made_of made.new ≡ spec.then_stands at (PKind.While head cond made.old.front) (record { slots = made.old.slots; front = outer })) }
+) -> Result<OpenLoop, AllocError>
+    ensures cond { IfOk result (λ l. spec.valued l.cond (record { slots = made.new.slots; front = l.head }) ≡ plain.condition (env_of site.entry) site.entry.at cond.now made.old.slots) }
+    ensures outer { IfOk result (λ l. l.outer ≡ made.old.front) }
+    ensures made { OnOk result (made_of made.new ≡ plain.fresh made.new.slots) }
 {
+    let outer = made.begin(site.alloc);
+    let cond = condition(site, cond, made)?;
+    let head = made.begin(site.alloc);
+    Ok(OpenLoop { head, cond, outer })
+}
+
+/// Ends a loop: in front of it stand the statements that stood there when it began.
+pub fn close_loop(at: Place, begun: OpenLoop, made: &mut Made) -> Result<(), AllocError>
+    ensures { OnOk result (made_of made.new ≡ spec.then_stands at (PKind.While begun.head begun.cond made.old.front) (record { slots = made.old.slots; front = begun.outer })) }
+{
+    let OpenLoop { head, cond, outer } = begun;
     let body = made.end(outer);
     made.stand(at, PKind::While(head, cond, body))
 }

@@ -12,12 +12,12 @@ ghost use Rattle.lq_plain.specs.Sites.{env_in};
 use crate::arms::{Open, close_arms};
 use crate::flatten::flat_operand;
 use crate::made::Made;
-use crate::parts::{close_loop, close_range, declare, open_range};
+use crate::parts::{OpenLoop, close_loop, close_range, declare, open_loop, open_range};
 use crate::scope::Scope;
 use crate::site::Frame;
-use crate::values::{called, condition, printed, returned, set, stored};
+use crate::values::{called, printed, returned, set, stored};
 use lq_tree::{
-    Arm, Boxed, Branch, Expr, ExprType, Items, Name, PKind, Place, Stmt, StmtKind, declared,
+    Arm, Boxed, Branch, CType, Expr, ExprType, Items, Name, PKind, Place, Stmt, StmtKind, declared,
 };
 use std::alloc::AllocError;
 
@@ -35,10 +35,7 @@ fn statement<'a>(
     match &stmt.kind {
         StmtKind::Empty => Ok(()),
         StmtKind::Block(body) => block(frame, scope, body.as_slice(), made),
-        StmtKind::Local(ctype, name, value) => {
-            let slot = declare(frame.site(scope, at), ctype, name, value, made)?;
-            scope.push(name, declared(ctype), slot)
-        }
+        StmtKind::Local(ctype, name, value) => local(frame, scope, at, ctype, name, value, made),
         StmtKind::Set(name, value) => set(frame.site(scope, at), name, value, made),
         StmtKind::Store(into, value) => stored(frame.site(scope, at), into, value, made),
         StmtKind::Call(name, args) => called(frame.site(scope, at), name, args.as_slice(), made),
@@ -47,20 +44,17 @@ fn statement<'a>(
         StmtKind::Cobegin(blocks) => cobegin(frame, scope, at, blocks.as_slice(), made),
         StmtKind::If(arms, other) => {
             let opens = open_arms(frame, scope, at, arms.as_slice(), made)?;
-            other_arm(frame, scope, other, made)?;
-            close_arms(at, opens, made)
+            last_arm(frame, scope, at, opens, other, made)
         }
         StmtKind::While(cond, body) => while_loop(frame, scope, at, body.get(), cond, made),
         StmtKind::For(first, cond, third, body) => {
             let height = scope.len();
             opening(frame, scope, first, made)?;
-            let outer = made.begin(frame.alloc);
-            let cond = condition(frame.site(scope, at), cond, made)?;
-            let head = made.begin(frame.alloc);
+            let begun = open_loop(frame.site(scope, at), cond, made)?;
             inside(frame, scope, body.get(), made)?;
             other_arm(frame, scope, third, made)?;
             scope.truncate(height);
-            close_loop(at, outer, head, cond, made)
+            close_loop(at, begun, made)
         }
         StmtKind::Foreach(index, low, high, step, body) => {
             let range = open_range(frame.site(scope, at), index, low, high, made)?;
@@ -68,6 +62,22 @@ fn statement<'a>(
             close_range(at, range, step, body.get().at, made)
         }
     }
+}
+
+/// A declaration, behind which its local is in scope.
+fn local<'a>(
+    frame: Frame<'a>,
+    scope: &mut Scope<'a>,
+    at: Place,
+    ctype: &'a CType,
+    name: &'a Name,
+    value: &'a Option<Expr>,
+    made: &mut Made,
+) -> Result<(), AllocError>
+    ensures { OnOk result (lists.seen_behind scope.new (made_of made.new) ≡ plain.plain (env_in frame.entry scope.old) at (StmtKind.Local ctype.now name.now value.now) (made_of made.old)) }
+{
+    let slot = declare(frame.site(scope, at), ctype, name, value, made)?;
+    scope.push(name, declared(ctype), slot)
 }
 
 /// Statements one after another, to the end of the block that holds them.
@@ -162,6 +172,23 @@ fn open_arms<'a>(
     Ok(opens)
 }
 
+/// The last arm of an `if`, which may be missing, and the ends of the arms before it.
+#[cycle(plain_statements)]
+fn last_arm<'a>(
+    frame: Frame<'a>,
+    scope: &mut Scope<'a>,
+    at: Place,
+    opens: Items<Open>,
+    other: &'a Option<Boxed<Stmt>>,
+    made: &mut Made,
+) -> Result<(), AllocError>
+    ensures scope { OnOk result (scope.new ≡ scope.old) }
+    ensures made { OnOk result (made_of made.new ≡ closed at opens (lists.maybe (env_in frame.entry scope.old) other.now (made_of made.old)).made) }
+{
+    other_arm(frame, scope, other, made)?;
+    close_arms(at, opens, made)
+}
+
 /// The blocks of a `cobegin`.
 #[cycle(plain_statements)]
 fn cobegin<'a>(
@@ -202,7 +229,7 @@ fn while_loop<'a>(
     let cond = flat_operand(frame.site(scope, at), true, cond, made)?;
     let head = made.begin(frame.alloc);
     inside(frame, scope, body, made)?;
-    close_loop(at, outer, head, cond, made)
+    close_loop(at, OpenLoop { head, cond, outer }, made)
 }
 
 /// The block of a `foreach`, in which its index is in scope.

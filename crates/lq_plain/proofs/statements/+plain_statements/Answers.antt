@@ -8,7 +8,6 @@ use Rattle.lq_tree.specs.declared.stmt.StmtKind.{StmtKind, Set, Store, Call, Whi
 use Rattle.lq_tree.specs.declared.plain.Branch.{Branch, roll-Branch}
 use Rattle.lq_tree.specs.declared.plain.PStmt.{PStmt}
 use Rattle.lq_tree.specs.Locals.{Local}
-use Rattle.lq_tree.specs.Seen.{seen}
 use Rattle.lq_tree.specs.Types.{Number}
 use Rattle.lq_plain.specs.declared.arms.Open.{Open}
 use Rattle.lq_plain.specs.Flat.{Env, Made}
@@ -17,7 +16,7 @@ use Rattle.lq_plain.specs.Lists.{one, maybe, all_arms, all_branches}
 use Rattle.lq_plain.specs.SeenArms.{closed}
 use Rattle.lq_plain.specs.SeenMade.{made_of}
 use Rattle.lq_plain.specs.Sites.{env_of, env_in}
-use Rattle.lq_plain.proofs.StatementCases.{alone, at_local, at_block, at_if, at_for, at_foreach, at_while, kept, grows, all_there, index_off, beside, branch_more, branches_end, at_cobegin, arm_more, arms_end, statement_more, statements_end, both_ok, return_stays, grows_maybe, kept_maybe}
+use Rattle.lq_plain.proofs.StatementCases.{alone, at_block, at_if, at_for, at_foreach, at_while, kept, grows, all_there, index_off, beside, branch_more, branches_end, at_cobegin, arm_more, arms_end, statement_more, statements_end, both_ok, return_stays, grows_maybe, kept_maybe}
 use Rattle.lq_plain.proofs.statements.+plain_statements.Goals as goal
 
 pub statement-returns-in-Empty : goal.statement-returns-in-Empty
@@ -33,7 +32,7 @@ statement-returns-in-Set t c =
     let s = c.args.stmt.now in
     let m = made_of c.args.made.now in
     IfOk-weaker c.set.result _ _
-    (λ v given. alone env s.at m (env_of c.site-in-Set.result) c.site-in-Set.result.at s.kind (Set c.in-Set.name c.in-Set.value) env.scope (made_of c.set.new.made) c.site-in-Set.ensures.env c.site-in-Set.ensures.at c.in-Set.is refl refl given)
+    (λ v given. alone env s.at m (env_of c.site.result) c.site.result.at s.kind (Set c.in-Set.name c.in-Set.value) env.scope (made_of c.set.new.made) c.site.ensures.env c.site.ensures.at c.in-Set.is refl refl given)
     c.set.ensures
 
 pub statement-returns-in-Store : goal.statement-returns-in-Store
@@ -71,15 +70,12 @@ statement-returns-in-Block t c =
     both_ok c.block.result _ _ _ (λ v scope_is given. at_block env s.at m s.kind c.in-Block.body c.as_slice.result.now c.block.new.scope (made_of c.block.new.made) c.in-Block.is c.as_slice.ensures scope_is given)
     c.block.ensures.scope c.block.ensures.made
 
-pub statement-returns-in_ok-slot-in-Local : goal.statement-returns-in_ok-slot-in-Local
-statement-returns-in_ok-slot-in-Local t c =
+pub statement-returns-in-Local : goal.statement-returns-in-Local
+statement-returns-in-Local t c =
     let env = env_in c.args.frame c.args.scope.now in
     let s = c.args.stmt.now in
     let m = made_of c.args.made.now in
-    IfOk-weaker c.push.result _ _
-    (λ v given. at_local env s.at m (env_of c.site.result) c.site.result.at s.kind c.in-Local.ctype c.in-Local.name c.in-Local.value (seen c.declared.result) c.in_ok-slot-in-Local.slot c.push.new.self (made_of c.declare.new.made)
-    c.site.ensures.env c.site.ensures.at c.in-Local.is given c.declared.ensures c.in_ok-slot-in-Local.ensures.slot c.in_ok-slot-in-Local.ensures.made)
-    c.push.ensures
+    IfOk-weaker c.local.result _ _ (λ v given. given ∙ ap (λ (k : StmtKind). plain env s.at k m) (sym c.in-Local.is)) c.local.ensures
 
 pub statement-returns-in-Call : goal.statement-returns-in-Call
 statement-returns-in-Call t c =
@@ -111,16 +107,16 @@ statement-returns-in-While t c =
     refl refl (c.in-While.is ∙ ap (λ (b : Stmt). While c.in-While.cond b) (sym c.get.ensures)) scope_is refl given)
     c.while_loop.ensures.scope c.while_loop.ensures.made
 
-pub statement-returns-in_ok-other_arm-in-If : goal.statement-returns-in_ok-other_arm-in-If
-statement-returns-in_ok-other_arm-in-If t c =
+pub statement-returns-in_ok-opens-in-If : goal.statement-returns-in_ok-opens-in-If
+statement-returns-in_ok-opens-in-If t c =
     let env = env_in c.args.frame c.args.scope.now in
     let s = c.args.stmt.now in
     let m = made_of c.args.made.now in
-    IfOk-weaker c.close_arms.result _ _
-    (λ v given. at_if env s.at m s.kind c.in-If.arms c.as_slice-in-If.result.now c.in-If.other c.in_ok-opens-in-If.opens c.open_arms.new.scope c.other_arm.new.scope
-    (made_of c.open_arms.new.made) (made_of c.other_arm.new.made) (made_of c.close_arms.new.made)
-    c.in-If.is c.as_slice-in-If.ensures c.in_ok-opens-in-If.ensures.scope c.in_ok-other_arm-in-If.ensures.scope c.in_ok-opens-in-If.ensures.arms c.in_ok-other_arm-in-If.ensures.made given)
-    c.close_arms.ensures
+    both_ok c.last_arm.result _ _ _
+    (λ v scope_is given. at_if env s.at m s.kind c.in-If.arms c.as_slice-in-If.result.now c.in-If.other c.in_ok-opens-in-If.opens c.open_arms.new.scope c.last_arm.new.scope
+    (made_of c.open_arms.new.made) (made_of c.last_arm.new.made)
+    c.in-If.is c.as_slice-in-If.ensures c.in_ok-opens-in-If.ensures.scope scope_is c.in_ok-opens-in-If.ensures.arms given)
+    c.last_arm.ensures.scope c.last_arm.ensures.made
 
 pub statement-truncate-requires : goal.statement-truncate-requires
 statement-truncate-requires t c =
@@ -134,16 +130,16 @@ statement-returns-in_ok-other_arm-in-For t c =
     let s = c.args.stmt.now in
     let m = made_of c.args.made.now in
     let opened = c.opening.new.scope in
+    let begun = c.in_ok-begun-in-For.begun in
     let cut : c.truncate.new.self ≡ env.scope =
     c.truncate.ensures ∙ ap (λ (x : List (Local ℕ)). drop (length x - c.len-height.result) x) (c.in_ok-other_arm-in-For.ensures.scope ∙ c.in_ok-inside-in-For.ensures.scope)
     ∙ ap (λ h. drop (length opened - h) opened) c.len-height.ensures
     ∙ ap (λ (b : Behind). drop (length b.scope - length env.scope) b.scope) c.in_ok-opening-in-For.ensures ∙ kept_maybe env c.in-For.first m in
     IfOk-weaker c.close_loop.result _ _
     (λ v given. at_for env s.at m (env_of c.site-in-For.result) c.site-in-For.result.at s.kind c.in-For.first c.in-For.cond c.in-For.third c.in-For.body c.get-in-For.result.now opened c.inside.new.scope c.truncate.new.self
-    (made_of c.opening.new.made) (made_of c.begin-outer.new.self) (made_of c.condition.new.made) (made_of c.begin-head.new.self) (made_of c.inside.new.made) (made_of c.other_arm-in-For.new.made) (made_of c.close_loop.new.made)
-    c.in_ok-cond-in-For.cond c.begin-outer.result c.begin-head.result
-    c.in-For.is c.get-in-For.ensures c.in_ok-opening-in-For.ensures c.begin-outer.ensures.outer c.begin-outer.ensures.made c.site-in-For.ensures.env c.site-in-For.ensures.at c.in_ok-cond-in-For.ensures
-    c.begin-head.ensures.outer c.begin-head.ensures.made c.in_ok-inside-in-For.ensures.made c.in_ok-inside-in-For.ensures.scope c.in_ok-other_arm-in-For.ensures.made cut given)
+    (made_of c.opening.new.made) (made_of c.open_loop.new.made) (made_of c.inside.new.made) (made_of c.other_arm.new.made) (made_of c.close_loop.new.made) begun.cond begun.outer begun.head
+    c.in-For.is c.get-in-For.ensures c.in_ok-opening-in-For.ensures c.site-in-For.ensures.env c.site-in-For.ensures.at c.in_ok-begun-in-For.ensures.cond c.in_ok-begun-in-For.ensures.outer c.in_ok-begun-in-For.ensures.made
+    c.in_ok-inside-in-For.ensures.made c.in_ok-inside-in-For.ensures.scope c.in_ok-other_arm-in-For.ensures.made cut given)
     c.close_loop.ensures
 
 pub statement-returns-in_ok-iteration-in-Foreach : goal.statement-returns-in_ok-iteration-in-Foreach
@@ -229,6 +225,14 @@ other_arm-returns-in-None-clause-made t c =
     let env = env_in c.args.frame c.args.scope.now in
     let m = made_of c.args.made.now in
     ap (λ (o : Option Stmt). (maybe env o m).made) (sym c.in-None.is)
+
+pub last_arm-returns-clause-scope : goal.last_arm-returns-clause-scope
+last_arm-returns-clause-scope t c =
+    IfOk-weaker c.close_arms.result _ _ (λ v given. c.in_ok-other_arm.ensures.scope) c.close_arms.ensures
+
+pub last_arm-returns-clause-made : goal.last_arm-returns-clause-made
+last_arm-returns-clause-made t c =
+    IfOk-weaker c.close_arms.result _ _ (λ v given. given ∙ ap (closed c.args.at c.args.opens) c.in_ok-other_arm.ensures.made) c.close_arms.ensures
 
 pub open_arms-loop-arm-init : goal.open_arms-loop-arm-init
 open_arms-loop-arm-init t c =
