@@ -3,7 +3,7 @@
 use crate::{Beside, pairs_cobegin, pairs_foreach, pairs_of};
 use lq_chain::Chain;
 use lq_effects::EffectTable;
-use lq_symbolic::{Start, SymState, symbol};
+use lq_symbolic::{OpenRecords, Start, SymState, symbol};
 use lq_tally::Tally;
 use lq_templates::{ScopeRef, Template, TemplateKind};
 use lq_tree::Place;
@@ -93,7 +93,7 @@ fn iterations_are_apart(rt: HostRuntime) -> Result<(), Fail> {
     let state = SymState {
         slots: Items::new(alloc),
         items: Chain::new(alloc),
-        opened: Items::new(alloc),
+        opened: OpenRecords::new(alloc),
         scopes: Items::new(alloc),
         next: 2,
     };

@@ -3,7 +3,7 @@
 use crate::{EffectTable, ask_access, ask_call};
 use lq_chain::Chain;
 use lq_linear::Form;
-use lq_symbolic::{Start, SymState, symbol};
+use lq_symbolic::{OpenRecords, Start, SymState, symbol};
 use lq_tally::Tally;
 use lq_templates::{Access, Condition, Given, ScopeRef, Site, Template, TemplateKind};
 use lq_tree::Place;
@@ -64,7 +64,7 @@ fn inside(alloc: Global) -> Result<SymState, AllocError> {
     Ok(SymState {
         slots: Items::new(alloc),
         items: Chain::new(alloc),
-        opened: Items::new(alloc),
+        opened: OpenRecords::new(alloc),
         scopes,
         next: 7,
     })

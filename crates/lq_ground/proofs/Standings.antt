@@ -1,5 +1,5 @@
 -- The walk over a function's text, as the code keeps where it stands.
-use Rattle.std.proofs.Common.{◌≡◌, ℕ, zero, suc, ◌+◌, ◌<◌, ◌≤◌, ◌==◌, Bool, true, false, cond, not, ◌&&◌, ◌||◌, List, [], ◌∷◌, ◌++◌, length, take, filter, Option, None, Some, inl, inr, refl, ap, ap₂, sym, subst, ◌∙◌, arith, append-nil, append_assoc}
+use Rattle.std.proofs.Common.{◌≡◌, ℕ, zero, suc, ◌+◌, ◌-◌, ◌<◌, ◌≤◌, ◌==◌, Bool, true, false, cond, not, ◌&&◌, ◌||◌, List, [], ◌∷◌, ◌++◌, length, take, filter, Option, None, Some, inl, inr, refl, ap, ap₂, sym, subst, ◌∙◌, arith, append-nil, append_assoc}
 use Rattle.std.specs.List.{list_any}
 use Rattle.std.proofs.Math.ListN.{length-append}
 use Rattle.std.proofs.lemmas.Bool.{ne_eqb}
@@ -11,7 +11,7 @@ use Rattle.lq_tree.specs.PlainScopes.{is_among}
 use Rattle.lq_tree.specs.PlainWalk.{targets}
 use Rattle.lq_templates.specs.Lives.{list_lives}
 use Rattle.lq_templates.specs.Names.{marked}
-use Rattle.lq_templates.specs.Spots.{Spot, join, loop, inner_scope, Walk, spot_at, where_changed, changed, passed, assign, closed, walked, walked_branch, walked_branches, walked_all}
+use Rattle.lq_templates.specs.Spots.{Spot, join, loop, inner_scope, Walk, spot_at, where_changed, changed, passed, assign, closed, with_index, walked, walked_branch, walked_branches, walked_all}
 use Rattle.lq_templates.specs.Templates.{Env, spot_templates, count_scopes}
 use Rattle.lq_ground.specs.declared.position.Position.{Position}
 use Rattle.lq_ground.specs.declared.spot.Change.{Change}
@@ -188,6 +188,21 @@ leaves g old new w list width assigned scopes templates scope count stands =
     record {
       assigned = λ n. ap (λ (bs : List Bool). marked bs n) assigned ∙ stands.assigned n;
       scope = scope ∙ ap₂ (λ n (xs : List ℕ). take n xs) count (stands.scope ∙ further.whole) ∙ take-front w.scope further.more;
+      scopes = scopes ∙ stands.scopes;
+      templates = templates ∙ stands.templates;
+    }
+
+-- behind the branch of a Foreach
+pub leaves_index : (g : Ground) (old new : Position) (w : Walk) (b : Branch) (index : ℕ) → new.assigned ≡ old.assigned → new.scopes ≡ old.scopes → new.templates ≡ old.templates
+    → new.scope ≡ take (length old.scope - 1) old.scope → StandsAt g old (walked_branch b (with_index index w)) → StandsAt g new (closed w (walked_branch b (with_index index w)))
+leaves_index g old new w b index assigned scopes templates scope stands =
+    let there : old.scope ≡ w.scope ++ index ∷ [] = stands.scope ∙ branch_scope b (with_index index w) in
+    let whole = ap length there in
+    let parts = length-append w.scope (index ∷ []) in
+    let count : length old.scope - 1 ≡ length w.scope = omega (arith, whole, parts) in
+    record {
+      assigned = λ n. ap (λ (bs : List Bool). marked bs n) assigned ∙ stands.assigned n;
+      scope = scope ∙ ap₂ (λ n (xs : List ℕ). take n xs) count there ∙ take-front w.scope (index ∷ []);
       scopes = scopes ∙ stands.scopes;
       templates = templates ∙ stands.templates;
     }

@@ -26,10 +26,10 @@ use std::alloc::{AllocError, Global};
 /// scopes and templates inside the text were passed.
 #[derive(Drop)]
 pub struct Position {
-    pub(crate) assigned: Items<bool>,
-    pub(crate) scope: Items<u32>,
-    pub(crate) scopes: u32,
-    pub(crate) templates: u32,
+    pub assigned: Items<bool>,
+    pub scope: Items<u32>,
+    pub scopes: u32,
+    pub templates: u32,
 }
 
 // Marks a slot.
@@ -74,6 +74,18 @@ impl Position {
             scope: first_slots(alloc, function.params)?,
             scopes: 0,
             templates: 0,
+        })
+    }
+
+    /// The same position once more.
+    pub fn copy(&self, alloc: Global) -> Result<Position, AllocError>
+        ensures { IfOk result (λ copy. copy ≡ self.now) }
+    {
+        Ok(Position {
+            assigned: Items::from_slice(alloc, self.assigned.as_slice())?,
+            scope: Items::from_slice(alloc, self.scope.as_slice())?,
+            scopes: self.scopes,
+            templates: self.templates,
         })
     }
 
@@ -127,6 +139,15 @@ impl Position {
         ensures { OnOk result ((g : spec.Ground) (w : Walk) → StandsAt g self.old w → StandsAt g self.new (spots.with_index index w)) }
     {
         self.scope.push(index)
+    }
+
+    /// Behind the branch of a Foreach: its index is in scope no more.
+    pub fn leave_index(&mut self)
+        ensures { (g : spec.Ground) (w : Walk) (branch : Branch) (index : ℕ) → StandsAt g self.old (spots.walked_branch branch (spots.with_index index w))
+            → StandsAt g self.new (spots.closed w (spots.walked_branch branch (spots.with_index index w))) }
+    {
+        let width = self.scope.len().saturating_sub(1);
+        truncate(&mut self.scope, width);
     }
 
     /// Passes the spot of a branch, the next one of the text, and stands in front of its list.

@@ -3,7 +3,7 @@
 use crate::{Position, at_entry, enter_scope, param_values};
 use lq_chain::Chain;
 use lq_linear::Form;
-use lq_symbolic::{Start, SymPtr, SymState, SymValue};
+use lq_symbolic::{OpenRecords, Start, SymPtr, SymState, SymValue};
 use lq_tree::{Base, CType, Name, PExpr, PFunc, PKind, Place, Slot};
 use sqlite_items::Items;
 use std::alloc::{AllocError, Global};
@@ -90,7 +90,7 @@ fn the_outermost_scope_tells_the_entry(rt: HostRuntime) -> Result<(), Fail> {
     let mut state = SymState {
         slots: Items::new(alloc),
         items: Chain::new(alloc),
-        opened: Items::new(alloc),
+        opened: OpenRecords::new(alloc),
         scopes: Items::new(alloc),
         next: 0,
     };
