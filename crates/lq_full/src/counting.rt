@@ -34,11 +34,11 @@ pub(crate) fn most_facts(
 fn larger_count(alloc: Global, c: &Condition, assign: &Assign, most: u64) -> Result<u64, AllocError>
     ensures { IfOk result (λ larger. larger ≡ max most (count_facts assign.now c.now)) }
 {
-    if !may_have_more(c, assign, most) {
-        return Ok(most);
+    if may_have_more(c, assign, most) {
+        Ok(most.max(count_facts(alloc, c, assign)?))
+    } else {
+        Ok(most)
     }
-    let count = count_facts(alloc, c, assign)?;
-    Ok(count.max(most))
 }
 
 // Whether a condition may have more facts than this number, as far as that shows without forms in the place of names.

@@ -9,6 +9,6 @@ returns-in-None c =
     let place = c.args.template - 1 in
     let none : None ≡ slice_get rows place = subst (λ n. None ≡ slice_get rows n) c.saturating_sub.ensures c.in-None.ensures.value in
     elim (slice_get_cases rows place).1 [
-        inl some ↦ absurd cc
+      | inl some ↦ absurd cc
       | inr past ↦ sym (get_or_past rows place [] past.0)
     ]
