@@ -1,20 +1,21 @@
 //! The greatest assignment.
 
-ghost use Rattle.std.specs.Prelude.{◌≡◌, ◌^◌, ◌<◌, length, reverse, IsTrue, IfOk};
-ghost use Rattle.std.specs.List.{AllByRecursion, list_all};
+ghost use Rattle.std.specs.Prelude.{◌≡◌, ◌<◌, length, reverse, IsTrue, IfOk, Contains};
+ghost use Rattle.std.specs.List.{AllByRecursion, list_all, flat_map};
+ghost use Rattle.lq_linear.specs.Row.{Inequality};
 ghost use Rattle.lq_templates.specs.Conditions.{is_rows, asks_rows, facts_of, rows_of, IsDerived, IsGreatest};
+ghost use Rattle.lq_fixpoint.specs.Goals.{bounded_of};
 ghost use Rattle.lq_fixpoint.specs.Thinning.{AreDerived, IsServedBy};
 ghost use Rattle.lq_fixpoint.specs.Users.{AreUsers};
 ghost use Rattle.lq_fixpoint.specs.Work.{IsKept, Drops, IsTested, AreTested};
 ghost use Rattle.lq_fixpoint.specs.Asking.{AsksAlike};
 
 use crate::facts::facts_under;
-use crate::sifting::derived_rows;
+use crate::sifting::{bounded_goals, derived_rows};
 use crate::users::users_of;
 use crate::work::Work;
-use lq_linear::Facts;
 use lq_templates::{Assign, Condition, Conditions, Given};
-use lq_validity::Mults;
+use lq_validity::{GoalIndex, Mults};
 use sqlite_items::Items;
 use std::alloc::{AllocError, Global};
 
@@ -98,43 +99,46 @@ fn thin(
     if !asks_rows(c) {
         return Ok(false);
     }
+    let goals = c.goals.as_slice();
     let facts = facts_under(alloc, c, &work.assign)?;
-    thin_goals(alloc, &facts, c.goals.as_slice(), mults, users, work)
+    let rows = bounded_goals(alloc, goals, &work.assign)?;
+    let index = GoalIndex::of(alloc, &facts, rows.as_slice(), mults)?;
+    thin_goals(alloc, &index, goals, users, work)
 }
 
-// Drops the rows for which some goals ask and that the facts don't derive. Tells whether any was dropped.
+// Drops the rows for which some goals ask and that the facts of an index for them don't derive. Tells whether any was
+// dropped.
 fn thin_goals(
     alloc: Global,
-    facts: &Facts,
+    index: &GoalIndex<'_>,
     goals: &[Given],
-    mults: &Mults,
     users: &[Items<usize>],
     work: &mut Work,
 ) -> Result<bool, AllocError>
-    requires few { length facts.now.items < 2 ^ 30 }
     requires rows { IsTrue (list_all is_rows goals.now) }
-    ensures { IfOk result (λ dropped. Drops (AreDerived mults.now (reverse facts.now.items) goals.now) users.now dropped work.old work.new) }
+    requires bounded { (row : Inequality) → Contains (flat_map (bounded_of work.old.assign) goals.now) row → Contains index.now.goals row }
+    ensures { IfOk result (λ dropped. Drops (AreDerived index.now.multipliers (reverse index.now.items) goals.now) users.now dropped work.old work.new) }
 {
     let Some((goal, rest)) = goals.split_first() else {
         return Ok(false);
     };
-    let first = thin_goal(alloc, facts, goal, mults, users, work)?;
-    let later = thin_goals(alloc, facts, rest, mults, users, work)?;
+    let first = thin_goal(alloc, index, goal, users, work)?;
+    let later = thin_goals(alloc, index, rest, users, work)?;
     Ok(first || later)
 }
 
-// Drops the rows for which a goal asks and that the facts don't derive. Tells whether any was dropped.
+// Drops the rows for which a goal asks and that the facts of an index for it don't derive. Tells whether any was
+// dropped.
 fn thin_goal(
     alloc: Global,
-    facts: &Facts,
+    index: &GoalIndex<'_>,
     goal: &Given,
-    mults: &Mults,
     users: &[Items<usize>],
     work: &mut Work,
 ) -> Result<bool, AllocError>
-    requires few { length facts.now.items < 2 ^ 30 }
     requires rows { IsTrue (is_rows goal.now) }
-    ensures { IfOk result (λ dropped. Drops (λ a. AllByRecursion (IsDerived mults.now (reverse facts.now.items)) (rows_of a goal.now))
+    requires bounded { (row : Inequality) → Contains (bounded_of work.old.assign goal.now) row → Contains index.now.goals row }
+    ensures { IfOk result (λ dropped. Drops (λ a. AllByRecursion (IsDerived index.now.multipliers (reverse index.now.items)) (rows_of a goal.now))
         users.now dropped work.old work.new) }
 {
     let Given::Of { template, values } = goal else {
@@ -144,7 +148,7 @@ fn thin_goal(
     let Some(rows) = work.assign.rows.get(place) else {
         return Ok(false);
     };
-    let derived = derived_rows(alloc, facts, values.as_slice(), rows.as_slice(), mults)?;
+    let derived = derived_rows(alloc, index, values.as_slice(), rows.as_slice())?;
     if rows.len() <= derived.len() {
         return Ok(false);
     }
