@@ -6,3 +6,7 @@ pub mod DerivedLemmas
 pub mod GoalLemmas
 pub mod SiftLemmas
 pub mod ThinLemmas
+pub mod BoundedLemmas
+pub mod UserLemmas
+pub mod WorkLemmas
+pub mod RoundLemmas

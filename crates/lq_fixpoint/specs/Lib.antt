@@ -3,3 +3,5 @@ pub mod Goals
 pub mod Sifting
 pub mod Thinning
 pub mod Asking
+pub mod Users
+pub mod Work

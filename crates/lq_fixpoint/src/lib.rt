@@ -7,6 +7,8 @@ mod laws;
 mod met;
 mod sifting;
 mod solving;
+mod users;
+mod work;
 
 pub use facts::{facts_under, goals_under};
 pub use filling::filled_row;

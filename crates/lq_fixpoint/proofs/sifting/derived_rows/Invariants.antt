@@ -9,8 +9,8 @@ use Rattle.lq_fixpoint.proofs.sifting.derived_rows.Given as goal
 
 abbrev pub invariant-loop-row : goal.invariant-loop-row
 invariant-loop-row l = record {
-  sifted : (part : List Inequality) → IsSifted (λ row. IsDerived l.mults (reverse l.facts.items) (filled l.values row)) l.rest part
-      → IsSifted (λ row. IsDerived l.mults (reverse l.facts.items) (filled l.values row)) l.rows (l.derived ++ part);
+  sifted : (part : List Inequality) → IsSifted (λ row. IsDerived l.index.multipliers (reverse l.index.items) (filled l.values row)) l.rest part
+      → IsSifted (λ row. IsDerived l.index.multipliers (reverse l.index.items) (filled l.values row)) l.rows (l.derived ++ part);
   there : (goal : Inequality) → Contains (filter_map (λ row. as_row (filled l.values row)) l.rest) goal → Contains l.index.goals goal;
 }
 
