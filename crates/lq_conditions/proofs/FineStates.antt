@@ -1,6 +1,6 @@
 -- States whose facts and open records name templates that are there.
 use Rattle.std.proofs.Common.{ℕ, Bool, true, false, List, [], ◌∷◌, map, Option, None, Some}
-use Rattle.std.specs.Prelude.{if◌then◌else◌, ◌==◌, nat_lt}
+use Rattle.std.specs.Prelude.{if◌then◌else◌, ◌==◌, nat_lt, slice_set}
 use Rattle.std.specs.List.{AllByRecursion}
 use Rattle.lq_tree.specs.declared.plain.PExpr.{PExpr}
 use Rattle.lq_tree.specs.declared.plain.Slot.{Slot}
@@ -118,12 +118,15 @@ module _ (count : ℕ) where
   pub open_record_fine : (class : ℕ) (types : List FieldType) (at : SymPtr) (s : State) → IsNumber count class → IsFine s → IsFine (open_record class types at s)
   open_record_fine class types at s k h = if_fine (is_at at (opened_of class s.opened)) s (open_new class types at s) h (open_new_fine class types at s k h)
 
-  with_fields_fine : (change : List SymValue → List SymValue) (found : Option Opened) (s : State) → IsKnownIf found → IsFine s → IsFine (with_fields change found s)
-  with_fields_fine change None s k h = h
-  with_fields_fine change (Some o) s k h = opened_fine (record o { fields = change o.fields }) s k h
+  with_fields_known : (class : ℕ) (change : List SymValue → List SymValue) (opened : List Opened) → AllByRecursion IsKnown opened
+      → AllByRecursion IsKnown (with_fields class change opened)
+  with_fields_known class change [] h = tt
+  with_fields_known class change (o ∷ rest) h =
+      if_known (o.class == class) (record o { fields = change o.fields } ∷ rest) (o ∷ with_fields class change rest) (h.0, h.1) (h.0, with_fields_known class change rest h.1)
 
   pub write_field_fine : (class field : ℕ) (value : SymValue) (s : State) → IsFine s → IsFine (write_field class field value s)
-  write_field_fine class field value s h = with_fields_fine _ (opened_of class s.opened) s (found_known class s.opened h.opened) h
+  write_field_fine class field value s h =
+      record { items = h.items; opened = with_fields_known class (λ fields. slice_set fields field value) s.opened h.opened }
 
   -- ---- conditions
 

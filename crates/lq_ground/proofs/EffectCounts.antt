@@ -17,7 +17,7 @@ use Rattle.lq_templates.specs.Accesses.{Access}
 use Rattle.lq_templates.specs.Names.{local_names}
 use Rattle.lq_templates.specs.Classes.{ClassOf, Variable, variables, first_variables}
 use Rattle.lq_templates.specs.Spots.{Spot, join, loop, inner_scope, Walk, params_of, spots}
-use Rattle.lq_templates.specs.Templates.{template, effect_of, Env, scope_accesses, record_templates, effect_templates, spot_templates, count_scopes, param_names, post_template, border_templates, function_templates, functions_templates, all_templates}
+use Rattle.lq_templates.specs.Templates.{template, effect_of, Env, scope_accesses, record_templates, effect_templates, spot_templates, count_scopes, param_names, post_template, border_templates, function_templates, functions_templates}
 use Rattle.lq_ground.specs.Ground.{Ground, in_branch, function_scope}
 use Rattle.lq_ground.specs.Numbers.{one_for, count_effects}
 use Rattle.lq_ground.specs.Standing.{IsGround, Follows}

@@ -4,18 +4,17 @@ use Rattle.std.proofs.Common.{◌≡◌, ℕ, ◌+◌, ◌<◌, List, [], ◌∷
 use Rattle.std.proofs.lemmas.List.{take-append-drop}
 use Rattle.lq_tree.specs.declared.place.Place.{Place}
 use Rattle.lq_tree.specs.declared.plain.PExpr.{PExpr}
-use Rattle.lq_tree.specs.declared.plain.PKind.{PKind, If, While, Cobegin, Foreach, Row_of-PStmt, end_of-PStmt, more_of-PStmt, items-the_row-PStmt, items_hidden-the_row-PStmt-0}
+use Rattle.lq_tree.specs.declared.plain.PKind.{PKind, If, While, Cobegin, Row_of-PStmt, end_of-PStmt, more_of-PStmt, items-the_row-PStmt, items_hidden-the_row-PStmt-0}
 use Rattle.lq_tree.specs.declared.plain.PKind.TheBlock.{hidden-the_row-PStmt-0}
 use Rattle.lq_tree.specs.declared.plain.PStmt.{PStmt}
-use Rattle.lq_tree.specs.declared.plain.Branch.{Branch, Branch', out-Branch, roll-Branch, rolls-Branch', roll-out-Branch}
-use Rattle.lq_tree.specs.PlainWalk.{within_row}
+use Rattle.lq_tree.specs.declared.plain.Branch.{Branch, out-Branch, roll-Branch, rolls-Branch', roll-out-Branch}
 use Rattle.lq_templates.specs.Reading.{walked_blocks}
-use Rattle.lq_templates.specs.Spots.{Spot, inner_scope, Walk, passed, closed, with_index, walked, walked_row, walked_branch, walked_all}
+use Rattle.lq_templates.specs.Spots.{Spot, inner_scope, Walk, passed, closed, walked, walked_row, walked_branch, walked_all}
 use Rattle.lq_templates.proofs.Inside.{within_row-list}
 use Rattle.lq_templates.proofs.ReadingLemmas.{begun, branch_spot, listed, walked-if, walked-while, walked-cobegin, walked_branch-out, all_more, blocks_more}
 use Rattle.lq_ground.specs.Ground.{Ground, in_first, in_second, in_branch}
 use Rattle.lq_ground.specs.Standing.{Follows}
-use Rattle.lq_ground.proofs.WalksOn.{Extends, itself, further, by_passing, walked_on, walked_branch_on}
+use Rattle.lq_ground.proofs.WalksOn.{Extends, itself, further, walked_on, walked_branch_on}
 
 -- ---- where the walk stands, by lists
 

@@ -1,9 +1,8 @@
 -- The walk over a function's text, as the code keeps where it stands.
-use Rattle.std.proofs.Common.{◌≡◌, ℕ, zero, suc, ◌+◌, ◌-◌, ◌<◌, ◌≤◌, ◌==◌, Bool, true, false, cond, not, ◌&&◌, ◌||◌, List, [], ◌∷◌, ◌++◌, length, take, filter, Option, None, Some, inl, inr, refl, ap, ap₂, sym, subst, ◌∙◌, arith, append-nil, append_assoc}
+use Rattle.std.proofs.Common.{◌≡◌, ℕ, suc, ◌+◌, ◌-◌, ◌==◌, Bool, true, false, cond, not, ◌&&◌, ◌||◌, List, [], ◌∷◌, ◌++◌, length, take, filter, refl, ap, ap₂, sym, subst, ◌∙◌, arith, append-nil, append_assoc}
 use Rattle.std.specs.List.{list_any}
 use Rattle.std.proofs.Math.ListN.{length-append}
 use Rattle.std.proofs.lemmas.Bool.{ne_eqb}
-use Rattle.lq_tree.specs.declared.place.Place.{Place}
 use Rattle.lq_tree.specs.declared.plain.PKind.{PKind, Set, Load, Store, Calloc, Call, If', While', Cobegin', Foreach, Print, Return, Row_of-Branch, end_of-Branch, more_of-Branch}
 use Rattle.lq_tree.specs.declared.plain.PStmt.{PStmt}
 use Rattle.lq_tree.specs.declared.plain.Branch.{Branch, Branch'}
@@ -11,13 +10,12 @@ use Rattle.lq_tree.specs.PlainScopes.{is_among}
 use Rattle.lq_tree.specs.PlainWalk.{targets}
 use Rattle.lq_templates.specs.Lives.{list_lives}
 use Rattle.lq_templates.specs.Names.{marked}
-use Rattle.lq_templates.specs.Spots.{Spot, join, loop, inner_scope, Walk, spot_at, where_changed, changed, passed, assign, closed, with_index, walked, walked_branch, walked_branches, walked_all}
+use Rattle.lq_templates.specs.Spots.{Spot, join, loop, Walk, spot_at, where_changed, changed, assign, closed, with_index, walked, walked_branch, walked_branches, walked_all}
 use Rattle.lq_templates.specs.Templates.{Env, spot_templates, count_scopes}
 use Rattle.lq_ground.specs.declared.position.Position.{Position}
-use Rattle.lq_ground.specs.declared.spot.Change.{Change}
 use Rattle.lq_ground.specs.Ground.{Ground, in_first, in_branch}
 use Rattle.lq_ground.specs.Spots.{has_spot}
-use Rattle.lq_ground.specs.Standing.{StandsAt, IsGround, Follows, Changes}
+use Rattle.lq_ground.specs.Standing.{StandsAt, IsGround, Follows}
 use Rattle.lq_ground.specs.Numbers.{count_effects}
 use Rattle.lq_ground.proofs.EffectCounts.{spots-append, enters}
 use Rattle.lq_ground.proofs.ScopeLemmas.{count-append, count-spot}

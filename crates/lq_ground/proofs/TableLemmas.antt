@@ -1,12 +1,10 @@
 -- What is looked up in tables is what the definitions say.
-use Rattle.std.proofs.Common.{◌≡◌, ℕ, suc, ◌+◌, ◌<◌, ◌≤◌, ◌==◌, Bool, true, false, cond, List, [], ◌∷◌, ◌++◌, length, get_or, drop, Option, None, Some, refl, ap, ap₂, sym, ◌∙◌, arith, slice_get}
+use Rattle.std.proofs.Common.{◌≡◌, ℕ, suc, Bool, true, false, cond, List, [], ◌∷◌, ◌++◌, Option, None, Some, refl, ap, ap₂, ◌∙◌, slice_get}
 use Rattle.std.specs.Prelude.{unwrap_or, slice_index_or}
-use Rattle.std.specs.List.{flat_map}
 use Rattle.std.proofs.lemmas.Option.{unwrap_or-slice_get}
 use Rattle.lq_tree.specs.declared.plain.PProgram.{PProgram}
 use Rattle.lq_tree.specs.declared.program.Param.{Param}
 use Rattle.lq_linear.specs.Form.{Linear}
-use Rattle.lq_templates.specs.declared.condition.Given.{Given}
 use Rattle.lq_templates.specs.declared.condition.Given.TheVariants.{Of}
 use Rattle.lq_templates.specs.declared.template.Template.{Template}
 use Rattle.lq_templates.specs.declared.template.TemplateKind.{TemplateKind}
@@ -14,9 +12,9 @@ use Rattle.lq_templates.specs.Accesses.{Access}
 use Rattle.lq_templates.specs.Classes.{class_in}
 use Rattle.lq_symbolic.specs.declared.state.FieldType.{FieldType}
 use Rattle.lq_ground.specs.declared.ground.Ground.{Ground as Held}
-use Rattle.lq_ground.specs.Fields.{field_type, field_types}
+use Rattle.lq_ground.specs.Fields.{field_types}
 use Rattle.lq_ground.specs.Ground.{classes_moved, fields_from, rows_where}
-use Rattle.lq_ground.specs.Noted.{first_of, noted, noted_in, row_of}
+use Rattle.lq_ground.specs.Noted.{first_of, noted_in, row_of}
 use Rattle.lq_ground.specs.Numbers.{first_where, rows_of}
 use Rattle.lq_ground.specs.Standing.{seen}
 use Rattle.lq_ground.specs.Tables.{fields_in}

@@ -3,7 +3,6 @@ use Rattle.std.specs.Prelude.{ℕ, suc, ◌+◌, ◌==◌, Bool, if◌then◌els
 use Rattle.lq_linear.specs.Form.{Linear}
 use Rattle.lq_templates.specs.declared.condition.Given.{Given}
 use Rattle.lq_templates.specs.declared.condition.Given.TheVariants.{Of}
-use Rattle.lq_templates.specs.declared.template.ScopeRef.{ScopeRef}
 use Rattle.lq_templates.specs.declared.template.Template.{Template}
 use Rattle.lq_templates.specs.declared.template.TemplateKind.{TemplateKind}
 use Rattle.lq_templates.specs.declared.template.TemplateKind.TheVariants.{Pre, Post, Effect}

@@ -1,5 +1,5 @@
 -- Which statements may have templates of their own.
-use Rattle.std.specs.Prelude.{ℕ, Bool, true, false, ◌&&◌, List}
+use Rattle.std.specs.Prelude.{Bool, true, false, ◌&&◌}
 use Rattle.lq_tree.specs.declared.plain.PKind.{PKind, If', While'}
 use Rattle.lq_templates.specs.Lives.{list_lives}
 

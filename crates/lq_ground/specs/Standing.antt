@@ -1,5 +1,5 @@
 -- The ground and the place of the walk as the code has them.
-use Rattle.std.specs.Prelude.{◌≡◌, ℕ, suc, ◌++◌, Bool, List, [], length, Some, slice_get}
+use Rattle.std.specs.Prelude.{◌≡◌, ℕ, suc, ◌++◌, Bool, List, length, Some, slice_get}
 use Rattle.lq_tree.specs.declared.plain.PKind.{PKind}
 use Rattle.lq_tree.specs.PlainScopes.{is_among}
 use Rattle.lq_templates.specs.Accesses.{Access}

@@ -146,8 +146,8 @@ impl Position {
         ensures { (g : spec.Ground) (w : Walk) (branch : Branch) (index : ℕ) → StandsAt g self.old (spots.walked_branch branch (spots.with_index index w))
             → StandsAt g self.new (spots.closed w (spots.walked_branch branch (spots.with_index index w))) }
     {
-        let width = self.scope.len().saturating_sub(1);
-        truncate(&mut self.scope, width);
+        let before = self.scope.len().saturating_sub(1);
+        truncate(&mut self.scope, before);
     }
 
     /// Passes the spot of a branch, the next one of the text, and stands in front of its list.

@@ -2,6 +2,8 @@
 #![tactic(auto)]
 
 #[cfg(test)]
+mod assignment;
+#[cfg(test)]
 mod atoms;
 #[cfg(test)]
 mod cert;

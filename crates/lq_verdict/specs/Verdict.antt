@@ -1,5 +1,5 @@
 -- Which programs are accepted with which qualifiers, and what a refusal tells (docs/CHECKING.md, "Verdict").
-use Rattle.std.specs.Prelude.{◌≡◌, ℕ, Bool, List, map}
+use Rattle.std.specs.Prelude.{◌≡◌, ℕ, Bool, List}
 use Rattle.lq_tree.specs.declared.plain.PProgram.{PProgram}
 use Rattle.lq_quals.specs.declared.quals.Quals.{Quals}
 use Rattle.lq_classes.specs.Classes.{AreClasses}
@@ -9,16 +9,11 @@ use Rattle.lq_templates.specs.declared.condition.Site.{Site}
 use Rattle.lq_templates.specs.declared.condition.Condition.{Condition}
 use Rattle.lq_templates.specs.declared.condition.Conditions.{Conditions}
 use Rattle.lq_templates.specs.declared.condition.Assign.{Assign}
-use Rattle.lq_templates.specs.declared.template.Template.{Template}
 use Rattle.lq_templates.specs.Accesses.{Access, AreAccesses}
 use Rattle.lq_templates.specs.Classes.{class_in}
-use Rattle.lq_instances.specs.Instances.{instances}
+use Rattle.lq_full.specs.Full.{full}
 use Rattle.lq_templates.specs.Conditions.{IsWithin, IsGreatest, IsFirstFailure}
 use Rattle.lq_conditions.specs.Conditions.{conditions, IsGoodFor}
-
--- the full assignment: each template has all its instances
-abbrev pub full : Quals → List Template → Assign
-full quals templates = record { rows = map (λ t. instances t quals) templates }
 
 -- the conditions of a program are met: some of its templates' instances make a good assignment
 pub record Accepts (p : PProgram) (quals : Quals) (asked : Conditions) : Type 0 where

@@ -12,7 +12,8 @@ ghost use Rattle.lq_templates.specs.declared.condition.Conditions.{Conditions};
 ghost use Rattle.lq_templates.specs.Conditions.{IsPart, IsSolution};
 ghost use Rattle.lq_templates.specs.declared.condition.Condition.{Condition};
 ghost use Rattle.lq_conditions.specs.Conditions.{IsGoodFor, IsValidFor};
-ghost use Rattle.lq_verdict.specs.Verdict.{full, Accepts, IsGreatestOf};
+ghost use Rattle.lq_full.specs.Full.{full};
+ghost use Rattle.lq_verdict.specs.Verdict.{Accepts, IsGreatestOf};
 ghost use Rattle.lq_verdict.specs.Claims.{assign_of};
 ghost use Rattle.lq_verdict.specs.Audit.{IsRightFor, IsFirstBadFor};
 

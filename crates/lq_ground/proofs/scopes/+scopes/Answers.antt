@@ -1,9 +1,9 @@
-use Rattle.std.proofs.Common.{◌≡◌, ◌+◌, List, take, arith, add-one, ap, ap₂, sym, ◌∙◌}
+use Rattle.std.proofs.Common.{◌+◌, List, take, arith, ap, ap₂, sym, ◌∙◌}
 use Rattle.lq_classes.proofs.Results.{if_ok_weaker}
 use Rattle.lq_tree.specs.declared.plain.PStmt.{PStmt}
 use Rattle.lq_tree.specs.declared.plain.Branch.{Branch, out-Branch}
 use Rattle.lq_templates.specs.Reading.{walked_blocks}
-use Rattle.lq_templates.specs.Spots.{passed, with_index, walked, walked_all}
+use Rattle.lq_templates.specs.Spots.{passed, walked, walked_all}
 use Rattle.lq_templates.specs.Templates.{count_scopes}
 use Rattle.lq_templates.proofs.ReadingLemmas.{begun, branch_spot, listed, walked-if, walked-while, walked-cobegin, walked_branch-out, all_more, blocks_more}
 use Rattle.lq_ground.proofs.ScopeLemmas.{count-begun, count-branch}
