@@ -21,7 +21,7 @@ line_avoids : (line : Line) → IsLine line → Avoids 10 (line_text line)
 line_avoids line h = avoids_joined 10 32 (line_words line) (omega arith) (words_avoid 10 line (omega arith) h)
 
 -- no two lines have one text
-line_inject : (a b : Line) → IsLine a → IsLine b → line_text a ≡ line_text b → a ≡ b
+pub line_inject : (a b : Line) → IsLine a → IsLine b → line_text a ≡ line_text b → a ≡ b
 line_inject a b h k e =
     words_inject a b h k (sym (split_words a h) ∙ ap (slice_split (λ byte. eqb byte 32)) e ∙ split_words b k)
 
@@ -33,7 +33,7 @@ too_many lines text line is e many other h same =
 
 -- ---- what stands between the line feeds
 
-lines_of-lines_text : (lines : List Line) (rest : List ℕ) → AllByRecursion IsLine lines → lines_of (lines_text lines ++ rest) ≡ map line_text lines ++ lines_of rest
+pub lines_of-lines_text : (lines : List Line) (rest : List ℕ) → AllByRecursion IsLine lines → lines_of (lines_text lines ++ rest) ≡ map line_text lines ++ lines_of rest
 lines_of-lines_text [] rest h = refl
 lines_of-lines_text (line ∷ lines) rest h =
     let text : List ℕ = line_text line in
@@ -42,7 +42,7 @@ lines_of-lines_text (line ∷ lines) rest h =
     ap lines_of moved ∙ split_first 10 text (more ++ rest) (line_avoids line h.0) ∙ ap (λ ts. text ∷ ts) (lines_of-lines_text lines rest h.1)
 
 -- the lines of a proof file are well-formed by themselves
-are_formed : (lines : List Line) → AreLines lines → AllByRecursion IsLine lines
+pub are_formed : (lines : List Line) → AreLines lines → AllByRecursion IsLine lines
 are_formed lines h = all_weaker (IsLineOf lines) IsLine (λ line is. is.0) lines h
 
 onto_some : (x : ℕ) (parts : List (List ℕ)) → (first : List ℕ) × (rest : List (List ℕ)) × (onto_first x parts ≡ first ∷ rest)
@@ -75,7 +75,7 @@ one_more [] line h k = ((k.0, first_fits line k.1), tt)
 one_more (first ∷ later) line h k = all_joined (IsLineOf (first ∷ later)) (first ∷ later) (line ∷ []) h (k, tt)
 
 -- a line of a file may stand behind those before it
-stands_behind : (before later : List Line) (line : Line) → IsLineOf (before ++ line ∷ later) line → IsLineOf before line
+pub stands_behind : (before later : List Line) (line : Line) → IsLineOf (before ++ line ∷ later) line → IsLineOf before line
 stands_behind [] later line h = (h.0, fits_first line h.1)
 stands_behind (first ∷ before) later line h = h
 
@@ -150,7 +150,7 @@ one_proof text lines others p q =
     lines_inject lines others (are_formed lines p.formed) (are_formed others q.formed) (sym p.spelled ∙ q.spelled)
 
 -- what stands behind the texts of some of the lines is the text of the next
-next_line : (before lines : List Line) (tail after : List (List ℕ)) (bad : List ℕ) → AllByRecursion IsLine before → AllByRecursion IsLine lines → map line_text lines ++ tail ≡ map line_text before ++ bad ∷ after → length before < length lines
+pub next_line : (before lines : List Line) (tail after : List (List ℕ)) (bad : List ℕ) → AllByRecursion IsLine before → AllByRecursion IsLine lines → map line_text lines ++ tail ≡ map line_text before ++ bad ∷ after → length before < length lines
     → (line : Line) × (later : List Line) × (lines ≡ before ++ line ∷ later) × (bad ≡ line_text line) × (map line_text later ++ tail ≡ after)
 next_line [] [] tail after bad h k e lt = absurd (omega arith)
 next_line [] (line ∷ later) tail after bad h k e lt = (line, later, refl, cc, cc)

@@ -1,4 +1,9 @@
 pub mod Agreement
+pub mod Deciding
+pub mod DecidingLines
 pub mod Shown
+pub mod Passed
+pub mod RightProofs
+pub mod Entries
 pub mod worked
 pub mod Validity

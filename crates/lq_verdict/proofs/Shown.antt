@@ -1,89 +1,22 @@
 -- A goal is shown by a combination that is tested by computing.
-use Rattle.std.proofs.Common.{◌≡◌, ℕ, ◌+◌, ◌-◌, ◌<◌, Bool, true, false, not, cond, List, [], ◌∷◌, map, length, Option, None, Some, inl, inr, refl, sym, ap, ap₂, subst, ◌∙◌, arith}
-use Rattle.std.specs.Prelude.{◌&&◌, ◌||◌, ◌==◌, nat_lt, nat_le, ℤ, pos, negsuc, ◌≤ℤ◌}
+use Rattle.std.proofs.Common.{◌≡◌, ℕ, ◌+◌, ◌-◌, ◌<◌, Bool, true, false, not, cond, List, [], ◌∷◌, map, length, Option, None, Some, inl, inr, refl, sym, ap, subst, ◌∙◌, arith}
+use Rattle.std.specs.Prelude.{◌&&◌, ◌||◌, ◌==◌, nat_lt, nat_le}
 use Rattle.std.specs.List.{AllByRecursion, list_any, list_all}
 use Rattle.std.specs.Option.{is_some}
-use Rattle.std.specs.Ordering.{int_eq}
-use Rattle.std.specs.Int.Signed.{le_z, le_z_yes}
-use Rattle.std.specs.Cmp.Lexicographic.{pointwise}
 use Rattle.std.proofs.lemmas.Bool.{cases_Bool, and_parts, eqb-true, eq-eqb, ltb-true, leb-true, leb-false, true≢false}
-use Rattle.std.proofs.lemmas.Bool.Decides.{Decides-eqb, Decides-int_eq}
-use Rattle.std.proofs.lemmas.Float.{T_from_true}
-use Rattle.std.proofs.lemmas.Int.{ints}
 use Rattle.std.proofs.lemmas.Map.Views.{Contains-from_any}
-use Rattle.lq_linear.specs.Terms.{Term, AreAlike, coefficient, times}
-use Rattle.lq_linear.specs.Row.{Inequality, IsBounded}
-use Rattle.lq_linear.specs.Collect.{collected, as_row}
+use Rattle.lq_linear.specs.Row.{Inequality}
+use Rattle.lq_linear.specs.Collect.{as_row}
 use Rattle.lq_linear.specs.Item.{rows_of, rows, row_numbered, dividend_row}
 use Rattle.lq_linear.specs.declared.item.Item.{Item}
 use Rattle.lq_linear.specs.declared.item.Item.TheVariants.{Holds, Division, Remainder}
 use Rattle.lq_linear.specs.declared.combination.TheConstants.{WIDTH}
-use Rattle.lq_linear.specs.Derivation.{floor, Part, Combination, combined, IsCombination, NumbersAscend, Proves, IsMultiplier, FollowsDirectly, IsRowFact, IsFact}
-use Rattle.lq_templates.specs.Rows.{same_term}
+use Rattle.lq_linear.specs.Derivation.{Part, Combination, IsCombination, Proves, IsMultiplier, FollowsDirectly, IsRowFact, IsFact}
 use Rattle.lq_templates.specs.declared.condition.Assign.{Assign}
 use Rattle.lq_templates.specs.declared.condition.Condition.{Condition}
 use Rattle.lq_templates.specs.Conditions.{IsDerived, IsMet, facts_of, goals_of}
-use Rattle.lq_symbolic.proofs.Collected.{collected_alike, row_if}
 use Rattle.lq_conditions.specs.Conditions.{IsGoodFor}
-
--- ---- sums
-
-same_terms : (xs ys : List Term) → pointwise same_term xs ys ≡ true → xs ≡ ys
-same_terms [] [] is = refl
-same_terms [] (y ∷ ys) is = absurd (true≢false (sym is))
-same_terms (x ∷ xs) [] is = absurd (true≢false (sym is))
-same_terms (x ∷ xs) (y ∷ ys) is =
-    let parts = and_parts (same_term x y) (pointwise same_term xs ys) is in
-    let one = and_parts (x.0 == y.0) (int_eq x.1 y.1) parts.0 in
-    ap₂ (λ (z : Term) (zs : List Term). z ∷ zs) (ap₂ (λ (n : ℕ) (z : ℤ). (n, z)) ((Decides-eqb x.0 y.0).0 one.0) ((Decides-int_eq x.1 y.1).0 one.1)) (same_terms xs ys parts.1)
-
--- two sums are collected to the same
-abbrev are_alike : (a b : List Term) → Bool
-are_alike a b = pointwise same_term (collected a) (collected b)
-
-alike : (a b : List Term) → are_alike a b ≡ true → AreAlike a b
-alike a b h x = sym (collected_alike a x) ∙ ap (λ (l : List Term). coefficient l x) (same_terms (collected a) (collected b) h) ∙ collected_alike b x
-
-at_most : (a b : ℤ) → le_z a b ≡ true → a ≤ℤ b
-at_most a b h = le_z_yes (T_from_true (le_z a b) h)
-
-each : {X : Type 0} (P : X → Type 0) (test : X → Bool) → ((x : X) → test x ≡ true → P x) → (xs : List X) → list_all test xs ≡ true → AllByRecursion P xs
-each P test by [] h = tt
-each P test by (x ∷ xs) h = let parts = and_parts (test x) (list_all test xs) h in (by x parts.0, each P test by xs parts.1)
-
--- the numbers of parts ascend
-abbrev ascend : List Part → Bool
-ascend [] = true
-ascend (p ∷ parts) = list_all (λ (q : Part). nat_lt p.1 q.1) parts && ascend parts
-
-ascending : (parts : List Part) → ascend parts ≡ true → NumbersAscend parts
-ascending [] h = tt
-ascending (p ∷ parts) h =
-    let both = and_parts (list_all (λ (q : Part). nat_lt p.1 q.1) parts) (ascend parts) h in
-    (each (λ (q : Part). p.1 < q.1) (λ (q : Part). nat_lt p.1 q.1) (λ q k. ltb-true p.1 q.1 k) parts both.0, ascending parts both.1)
-
--- ---- combinations
-
-abbrev gives_void : List Inequality → List Part → (divisor : ℕ) → Bool
-gives_void all parts divisor = (divisor == 1) && (are_alike (combined all parts).terms [] && le_z (combined all parts).most (negsuc 0))
-
-abbrev gives_goal : List Inequality → List Part → (divisor : ℕ) → Inequality → Bool
-gives_goal all parts divisor goal =
-    are_alike (combined all parts).terms (times (pos divisor) goal.terms) && le_z (floor (combined all parts).most divisor) goal.most
-
-abbrev proves : List Inequality → Inequality → Combination → Bool
-proves all goal c = cond c.void (gives_void all c.parts c.divisor) (gives_goal all c.parts c.divisor goal)
-
-by_void : (all : List Inequality) (goal : Inequality) (divisor : ℕ) (parts : List Part) (void : Bool) → cond void (gives_void all parts divisor) (gives_goal all parts divisor goal) ≡ true
-    → Proves all goal (record { void = void; divisor = divisor; parts = parts })
-by_void all goal divisor parts true h =
-    let first = and_parts (divisor == 1) (are_alike (combined all parts).terms [] && le_z (combined all parts).most (negsuc 0)) h in
-    let rest = and_parts (are_alike (combined all parts).terms []) (le_z (combined all parts).most (negsuc 0)) first.1 in
-    let low : (combined all parts).most ≤ℤ negsuc 0 = at_most (combined all parts).most (negsuc 0) rest.1 in
-    (record { alike = alike (combined all parts).terms [] rest.0; negative = omega (arith, ints, low) }, eqb-true divisor 1 first.0)
-by_void all goal divisor parts false h =
-    let both = and_parts (are_alike (combined all parts).terms (times (pos divisor) goal.terms)) (le_z (floor (combined all parts).most divisor) goal.most) h in
-    record { alike = alike (combined all parts).terms (times (pos divisor) goal.terms) both.0; most = at_most (floor (combined all parts).most divisor) goal.most both.1 }
+use Rattle.lq_verdict.proofs.Deciding.{all_if, if_not, decides_bounded, proves, decides_proves, ascends, decides_ascends, row_holds}
 
 -- an item, and a combination that shows that its dividend isn't negative, if there is one
 abbrev pub Entry : Type 0
@@ -105,25 +38,25 @@ module _ (multipliers : List ℕ) where
   -- a combination is one of usable rows, and proves the goal
   abbrev follows : (usable : ℕ → Bool) → List Inequality → Inequality → Combination → Bool
   follows usable all goal c =
-      nat_le (length c.parts) WIDTH && (ascend c.parts && (list_all (λ (q : Part). is_multiplier q.0) c.parts
+      nat_le (length c.parts) WIDTH && (ascends (λ (q : Part). q.1) c.parts && (list_all (λ (q : Part). is_multiplier q.0) c.parts
       && (list_all (λ (q : Part). usable q.1) c.parts && (is_multiplier c.divisor && proves all goal c))))
 
   shown : (usable : ℕ → Bool) (Usable : ℕ → Type 0) → ((n : ℕ) → usable n ≡ true → Usable n) → (all : List Inequality) (goal : Inequality) (c : Combination)
       → follows usable all goal c ≡ true → IsCombination WIDTH (IsMultiplier multipliers) Usable c × Proves all goal c
   shown usable Usable by all goal c h =
       let a = and_parts (nat_le (length c.parts) WIDTH) _ h in
-      let b = and_parts (ascend c.parts) _ a.1 in
+      let b = and_parts (ascends (λ (q : Part). q.1) c.parts) _ a.1 in
       let d = and_parts (list_all (λ (q : Part). is_multiplier q.0) c.parts) _ b.1 in
       let e = and_parts (list_all (λ (q : Part). usable q.1) c.parts) _ d.1 in
       let f = and_parts (is_multiplier c.divisor) (proves all goal c) e.1 in (
         record {
           few = leb-true (length c.parts) WIDTH a.0;
-          ascending = ascending c.parts b.0;
-          multipliers = each (λ (q : Part). IsMultiplier multipliers q.0) (λ (q : Part). is_multiplier q.0) (λ q k. a_multiplier q.0 k) c.parts d.0;
-          usable = each (λ (q : Part). Usable q.1) (λ (q : Part). usable q.1) (λ q k. by q.1 k) c.parts e.0;
+          ascending = (decides_ascends (λ (q : Part). q.1) c.parts).0 b.0;
+          multipliers = all_if (λ (q : Part). IsMultiplier multipliers q.0) (λ (q : Part). is_multiplier q.0) (λ q k. a_multiplier q.0 k) c.parts d.0;
+          usable = all_if (λ (q : Part). Usable q.1) (λ (q : Part). usable q.1) (λ q k. by q.1 k) c.parts e.0;
           allowed = a_multiplier c.divisor f.0;
         },
-        by_void all goal c.divisor c.parts c.void f.1,
+        (decides_proves all goal c).0 f.1,
       )
 
   -- ---- facts
@@ -135,10 +68,6 @@ module _ (multipliers : List ℕ) where
   directly usable all goal None = false
   directly usable all goal (Some c) = not c.void && follows usable all goal c
 
-  -- the row at a place of its item is a fact, where a third row needs what is shown
-  abbrev row_holds : Item → (place : ℕ) → (exact : Bool) → Bool
-  row_holds item place exact = nat_lt place (length (rows_of item)) && (is_some (as_row (row_numbered (rows_of item) (place + 1))) && (not (place == 2) || exact))
-
   -- the row with this number is a fact
   abbrev is_fact : List Entry → ℕ → Bool
   is_fact [] n = false
@@ -149,20 +78,9 @@ module _ (multipliers : List ℕ) where
 
   -- ---- what the tests show
 
-  held : {X : Type 0} (found : Option X) → is_some found ≡ true → (x : X) × (found ≡ Some x)
-  held None h = absurd (true≢false (sym h))
-  held (Some x) h = (x, refl)
-
-  bounded : (row : Inequality) → is_some (as_row row) ≡ true → IsBounded row
-  bounded row h = let made = held (as_row row) h in row_if row made.0 made.1
-
   or_second : (a b : Bool) → (not a || b) ≡ true → a ≡ true → b ≡ true
   or_second true b h k = h
   or_second false b h k = absurd (true≢false (sym k))
-
-  not_false : (a : Bool) → not a ≡ true → a ≡ false
-  not_false true h = absurd (true≢false (sym h))
-  not_false false h = refl
 
   directly_shown : (usable : ℕ → Bool) (Usable : ℕ → Type 0) → ((n : ℕ) → usable n ≡ true → Usable n) → (all : List Inequality) (goal : Inequality) (c : Option Combination)
       → directly usable all goal c ≡ true → FollowsDirectly multipliers Usable all goal
@@ -170,7 +88,7 @@ module _ (multipliers : List ℕ) where
   directly_shown usable Usable by all goal (Some c) h =
       let both = and_parts (not c.void) (follows usable all goal c) h in
       let found = shown usable Usable by all goal c both.1 in
-      (c, found.0, not_false c.void both.0, found.1)
+      (c, found.0, if_not c.void both.0, found.1)
 
   row_shown : (item : Item) (place : ℕ) (exact : Bool) (Exact : Type 0) → (exact ≡ true → Exact) → row_holds item place exact ≡ true → IsRowFact item place Exact
   row_shown item place exact Exact by h =
@@ -178,7 +96,7 @@ module _ (multipliers : List ℕ) where
       let b = and_parts (is_some (as_row (row_numbered (rows_of item) (place + 1)))) (not (place == 2) || exact) a.1 in
       record {
         there = ltb-true place (length (rows_of item)) a.0;
-        bounded = bounded (row_numbered (rows_of item) (place + 1)) b.0;
+        bounded = (decides_bounded (row_numbered (rows_of item) (place + 1))).0 b.0;
         third = λ e. by (or_second (place == 2) exact b.1 (eq-eqb place 2 e));
       }
 
@@ -209,7 +127,7 @@ module _ (multipliers : List ℕ) where
   goal_shown entries goal c h =
       let both = and_parts (is_some (as_row goal)) (follows (is_fact entries) (rows (items entries)) goal c) h in
       let found = shown (is_fact entries) (IsFact multipliers (items entries)) (fact_shown entries) (rows (items entries)) goal c both.1 in
-      record { bounded = bounded goal both.0; derived = (c, found.0, found.1) }
+      record { bounded = (decides_bounded goal).0 both.0; derived = (c, found.0, found.1) }
 
   -- ---- conditions
 

@@ -14,6 +14,8 @@ ghost use Rattle.lq_templates.specs.declared.condition.Condition.{Condition};
 ghost use Rattle.lq_conditions.specs.Conditions.{IsGoodFor, IsValidFor};
 ghost use Rattle.lq_full.specs.Full.{full};
 ghost use Rattle.lq_verdict.specs.Verdict.{Accepts, IsGreatestOf};
+ghost use Rattle.lq_verdict.specs.Claims.{assign_of};
+ghost use Rattle.lq_verdict.specs.Audit.{IsRightFor, IsFirstBadFor};
 
 /// What some items derive, these items with more among them derive.
 pub fn more_items_derive_more()
@@ -47,4 +49,19 @@ pub fn accepted_where_the_greatest_is_good()
     ensures accepted { (p : PProgram) (quals : Quals) (asked : Conditions) (greatest : Assign)
         → IsGreatestOf p quals asked greatest → IsGoodFor (multipliers_for p quals) greatest asked.list
         → Accepts p quals asked }
+{}
+
+/// The rows of a right proof are valid: wherever symbols stand for numbers that meet the facts of a condition, they
+/// meet its goals.
+pub fn right_proofs_are_valid()
+    ensures { (asked : Conditions) (text : List ℕ) (proof : IsRightFor asked text)
+        → IsValidFor (assign_of asked.templates proof.lines) asked.list }
+{}
+
+/// A right proof has no bad entry, and no file has two first ones.
+pub fn first_bad_entry_is_one()
+    ensures none { (asked : Conditions) (text : List ℕ) (entry : ℕ)
+        → IsRightFor asked text → ¬ IsFirstBadFor asked text entry }
+    ensures one { (asked : Conditions) (text : List ℕ) (entry other : ℕ)
+        → IsFirstBadFor asked text entry → IsFirstBadFor asked text other → entry ≡ other }
 {}
