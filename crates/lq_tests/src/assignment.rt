@@ -78,7 +78,11 @@ fn conditions(alloc: Global, divisions: u32) -> Result<Conditions, Fail> {
 }
 
 // The full assignment for so many divisions and rows.
-fn found(alloc: Global, divisions: u32, rows: u32) -> Result<Result<Assign, ConditionsFault>, Fail> {
+fn found(
+    alloc: Global,
+    divisions: u32,
+    rows: u32,
+) -> Result<Result<Assign, ConditionsFault>, Fail> {
     let quals = qualifiers(alloc, rows)?;
     Ok(full(alloc, &conditions(alloc, divisions)?, &quals))
 }

@@ -246,11 +246,19 @@ decides_use : (entries : List Exactness) (items : List Item) (number : ℕ) → 
 decides_use entries items number =
     Decides-like (may_use entries items number)
     (λ f. let beyond : length (rows (reverse f.front)) < number = (f.holds).0 in record {
-      before = f.front; item = f.item; after = f.behind; place = number - length (rows (reverse f.front)) - 1;
-      parts = f.parts; counted = omega (arith, beyond); fact = (f.holds).1;
+      before = f.front;
+      item = f.item;
+      after = f.behind;
+      place = number - length (rows (reverse f.front)) - 1;
+      parts = f.parts;
+      counted = omega (arith, beyond);
+      fact = (f.holds).1;
     })
     (λ h. let counted = h.counted in let beyond : length (rows (reverse h.before)) < number = omega (arith, counted) in record {
-      front = h.before; item = h.item; behind = h.after; parts = h.parts;
+      front = h.before;
+      item = h.item;
+      behind = h.after;
+      parts = h.parts;
       holds = (beyond, subst (λ place. IsRowFact h.item place (HasEntry entries (divisions (reverse h.before) + 1))) (omega (arith, counted)) h.fact);
     })
     (decides_split (Uses entries number) (uses entries number)
@@ -285,4 +293,3 @@ decides_right_entry entries items entry =
     (Decides-and (entry.item == divisions (reverse s.0) + 1) _ (Decides-eqb entry.item (divisions (reverse s.0) + 1))
     (Decides-and (not entry.combination.void) _ (decides_false entry.combination.void) (decides_right entries s.0 (dividend_row s.1) entry.combination))))
     [] items)
-

@@ -70,9 +70,9 @@ decides_next assign (Some found) number =
     Decides-like (next_is assign (Some found) number)
     (λ h. record { condition = found.1; is_next = ap (λ (n : ℕ). let some : Option (ℕ × Condition) = Some (n, found.1) in some) h.0; few = h.1 })
     (λ h.
-      let some : Some found ≡ Some (number, h.condition) = h.is_next in
-      let same : found ≡ (number, h.condition) = cc in
-      (ap (λ (p : ℕ × Condition). p.0) same, subst (λ (c : Condition). length (rows (facts_of assign c)) ≤ 512) (sym (ap (λ (p : ℕ × Condition). p.1) same)) h.few))
+    let some : Some found ≡ Some (number, h.condition) = h.is_next in
+    let same : found ≡ (number, h.condition) = cc in
+    (ap (λ (p : ℕ × Condition). p.0) same, subst (λ (c : Condition). length (rows (facts_of assign c)) ≤ 512) (sym (ap (λ (p : ℕ × Condition). p.1) same)) h.few))
     (Decides-and (found.0 == number) (nat_le (length (rows (facts_of assign found.1))) 512) (Decides-eqb found.0 number) (decides_le (length (rows (facts_of assign found.1))) 512))
 
 decides_none : {X : Type 0} (found : Option X) → Decides (not (is_some found)) (found ≡ None)

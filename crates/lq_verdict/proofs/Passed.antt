@@ -61,17 +61,35 @@ entry_joined (e ∷ entries) more n (inr h) = inr (entry_joined entries more n h
 
 -- what is right stays right where there are more entries
 right_joined : (entries more : List Exactness) (items : List Item) (goal : Inequality) (c : Combination) → IsRight entries items goal c → IsRight (entries ++ more) items goal c
-right_joined entries more items goal c h =
-    (record {
-      few = (h.0).few; ascending = (h.0).ascending; multipliers = (h.0).multipliers; allowed = (h.0).allowed;
-      usable = all_usable (MayUse entries items) (MayUse (entries ++ more) items) c.parts
-        (λ n u. record { before = u.before; item = u.item; after = u.after; place = u.place; parts = u.parts; counted = u.counted;
-          fact = record { there = (u.fact).there; bounded = (u.fact).bounded; third = λ e. entry_joined entries more _ ((u.fact).third e) } }) (h.0).usable
-    }, h.1)
+right_joined entries more items goal c h = (
+  record {
+    few = (h.0).few;
+    ascending = (h.0).ascending;
+    multipliers = (h.0).multipliers;
+    allowed = (h.0).allowed;
+    usable = all_usable (MayUse entries items) (MayUse (entries ++ more) items) c.parts
+        (λ n u. record {
+          before = u.before;
+          item = u.item;
+          after = u.after;
+          place = u.place;
+          parts = u.parts;
+          counted = u.counted;
+          fact = record { there = (u.fact).there; bounded = (u.fact).bounded; third = λ e. entry_joined entries more _ ((u.fact).third e) };
+        }) (h.0).usable;
+  },
+  h.1,
+)
 
 entered_joined : (entries more : List Exactness) (items : List Item) (e : Exactness) → IsRightEntry entries items e → IsRightEntry (entries ++ more) items e
 entered_joined entries more items e h = record {
-  before = h.before; item = h.item; after = h.after; parts = h.parts; divides = h.divides; counted = h.counted; directly = h.directly;
+  before = h.before;
+  item = h.item;
+  after = h.after;
+  parts = h.parts;
+  divides = h.divides;
+  counted = h.counted;
+  directly = h.directly;
   right = right_joined entries more h.before _ e.combination h.right;
 }
 
@@ -212,7 +230,7 @@ module _ (asked : Conditions) where
       let at = found.1 in
       subst (λ x. Passed asked x (Begins number ∷ last ∷ before)) (sym (assign_kept asked (Begins number) (last ∷ before) (λ n names. refl))) (record {
         earlier = subst (λ k. AllByRecursion (IsValid a) (take k asked.list)) (omega (arith, at))
-          (take_more (IsValid a) asked.list b found.0 (all_begun a (last ∷ before) p due.complete) found.2);
+            (take_more (IsValid a) asked.list b found.0 (all_begun a (last ∷ before) p due.complete) found.2);
         entered = tt;
         tells = λ v met. tt;
       })
@@ -224,8 +242,8 @@ module _ (asked : Conditions) where
       subst (λ x. Passed asked x (Exact item divisor parts ∷ last ∷ before)) (sym (assign_kept asked (Exact item divisor parts) (last ∷ before) (λ n names. refl))) (record {
         earlier = p.earlier;
         entered = all_joined (IsRightEntry (es ++ e ∷ []) items) es (e ∷ [])
-          (all_weaker (IsRightEntry es items) (IsRightEntry (es ++ e ∷ []) items) (entered_joined es (e ∷ []) items) es p.entered)
-          (entered_joined es (e ∷ []) items e due.right, tt);
+            (all_weaker (IsRightEntry es items) (IsRightEntry (es ++ e ∷ []) items) (entered_joined es (e ∷ []) items) es p.entered)
+            (entered_joined es (e ∷ []) items e due.right, tt);
         tells = p.tells;
       })
   due_passed last before (Goal goal divisor parts) right p due =

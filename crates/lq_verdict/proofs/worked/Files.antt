@@ -139,7 +139,9 @@ some_terms (term ∷ other ∷ []) e =
     let outer = and_parts (is_term term && is_term other) (may_precede term.atom other.atom) e in
     let terms = and_parts (is_term term) (is_term other) outer.0 in
     record {
-      some = omega arith; few = omega arith; are_terms = (a_term term terms.0, (a_term other terms.1, tt));
+      some = omega arith;
+      few = omega arith;
+      are_terms = (a_term term terms.0, (a_term other terms.1, tt));
       ordered = ((inl (in_order term.atom other.atom outer.1), tt), (tt, tt));
     }
 some_terms (term ∷ other ∷ next ∷ terms) e = absurd (true≢false (sym e))
@@ -234,7 +236,13 @@ module _ (asked : Conditions) where
       let both = and_parts (is_front lines) (nat_lt 0 (length (behind_next text lines))) good in
       let front = a_front lines both.0 in
       record {
-        lines = lines; bad = bytes; after = behind_next text lines; split = split; counted = refl; formed = front.0; right = front.1;
+        lines = lines;
+        bad = bytes;
+        after = behind_next text lines;
+        split = split;
+        counted = refl;
+        formed = front.0;
+        right = front.1;
         is_bad = bad_before lines bytes (behind_next text lines) (ltb-true 0 (length (behind_next text lines)) both.1) none;
       }
 
@@ -246,9 +254,9 @@ module _ (asked : Conditions) where
   wrong_line text lines line split good wrong =
       let both = and_parts (is_line line) (not (is_right_behind asked (reverse lines) line)) wrong in
       not_there text lines (line_text line) split good (λ other formed same right.
-        let one : line ≡ other = line_inject line other (a_line line both.0) formed.0 same in
-        let here : IsRightBehind asked (reverse lines) line = subst (IsRightBehind asked (reverse lines)) (sym one) right in
-        true≢false (sym ((decides_behind asked (reverse lines) line).1 here) ∙ if_not (is_right_behind asked (reverse lines) line) both.1))
+      let one : line ≡ other = line_inject line other (a_line line both.0) formed.0 same in
+      let here : IsRightBehind asked (reverse lines) line = subst (IsRightBehind asked (reverse lines)) (sym one) right in
+      true≢false (sym ((decides_behind asked (reverse lines) line).1 here) ∙ if_not (is_right_behind asked (reverse lines) line) both.1))
 
   behind_end : (back : List Line) → HasEnded back → (line : Line) → IsRightBehind asked back line → ⊥
   behind_end [] ended line right = ended
@@ -268,7 +276,13 @@ module _ (asked : Conditions) where
   no_line_feed text lines split good some =
       let front = a_front lines good in
       record {
-        lines = lines; bad = bytes_at text lines; after = []; split = split; counted = refl; formed = front.0; right = front.1;
+        lines = lines;
+        bad = bytes_at text lines;
+        after = [];
+        split = split;
+        counted = refl;
+        formed = front.0;
+        right = front.1;
         is_bad = λ none. let long = ltb-true 0 (length (bytes_at text lines)) some in absurd (omega (arith, long, ap length none));
       }
 
